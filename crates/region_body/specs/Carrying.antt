@@ -1,74 +1,41 @@
 -- What the connectors that aren't chained carry in a step.
-use Rattle.std.specs.Prelude.{◌≡◌, ◌==◌, ℕ, ◌+◌, ◌-◌, ◌^◌, ◌<◌, ◌≤◌, ◌⊎◌, List, [], ◌∷◌, Option, None, length, nat_lt, slice_index, slice_index_or, sum_by, unwrap_or, if◌then◌else◌}
+use Rattle.std.specs.Prelude.{◌≡◌, ℕ, ◌+◌, ◌^◌, ◌<◌, ◌≤◌, List, [], ◌∷◌, Option, length, slice_index_or, sum_by}
 use Rattle.network_file.specs.Connectors.{connector_at}
 use Rattle.network_file.specs.Network.{Network}
-use Rattle.network_file.specs.declared.connector.Connector.{Connector}
 use Rattle.connector_flow.specs.Flows.{flow_at}
 use Rattle.connector_flow.specs.Following.{IsCourseOf}
 use Rattle.connector_flow.specs.declared.rule.Rule.{Rule}
 use Rattle.connector_flow.specs.declared.rule.Rule.TheVariants.{Linking, Merging, Diverging}
 use Rattle.flow_model.specs.declared.carried.Flow.{Flow}
+use Rattle.region_body.specs.CellRefs.{AreRefsOf, IsWithin, held_before, parts_at, ref_at}
 use Rattle.region_body.specs.Places.{place_at, with_entered, with_left}
+use Rattle.region_body.specs.declared.cell_ref.CellRef.{CellRef}
 use Rattle.region_body.specs.declared.place.Place.{Place}
-use Rattle.region_cut.specs.ConnectorCells.{three_cells}
-use Rattle.region_body.specs.declared.tie.Tie.{Tie}
+use Rattle.region_body.specs.declared.followed_connector.FollowedConnector.{FollowedConnector}
 
--- what the cell at a spot holds. Spots are numbers: those of so many cells of the region's own, of which the p-th holds
--- `own p`, and behind them those of its halo.
-abbrev pub held_at : (count : ℕ) → (own : ℕ → ℕ) → (put : List (Option ℕ)) → (spot : ℕ) → ℕ
-held_at count own put spot = if nat_lt spot count then own spot else unwrap_or (slice_index_or put (spot - count) None) 0
+-- the connector is one of the network: its cells and what it carries are as there
+pub record IsConnected (net : Network) (cells halo : List ℕ) (connector : FollowedConnector) : Type 0 where
+  pub there : connector.number < length net.connectors
+  pub refs : AreRefsOf cells halo (connector_at net.connectors connector.number) connector.cells
+  pub course : IsCourseOf net (connector_at net.connectors connector.number) connector.course
 
--- by what the places of its own hold, or by a list of what they held
-abbrev pub held_in : List Place → (put : List (Option ℕ)) → (spot : ℕ) → ℕ
-held_in places put spot = held_at (length places) (λ p. (place_at places p).n) put spot
+-- what its three cells hold
+abbrev pub three_held : FollowedConnector → (held : CellRef → ℕ) → List ℕ
+three_held connector held = held (ref_at connector.cells 0) ∷ held (ref_at connector.cells 1) ∷ held (ref_at connector.cells 2) ∷ []
 
-abbrev pub held_before : (before : List ℕ) → (put : List (Option ℕ)) → (spot : ℕ) → ℕ
-held_before before put spot = held_at (length before) (slice_index before) put spot
+-- what it carries in step t
+abbrev pub carried_of : (t : ℕ) → FollowedConnector → (held : CellRef → ℕ) → Flow
+carried_of t connector held = flow_at connector.course t (three_held connector held)
 
--- the spot is there, among so many cells of the region's own and those of its halo
-abbrev pub IsWithin : (count : ℕ) → (put : List (Option ℕ)) → (spot : ℕ) → Type 0
-IsWithin count put spot = spot < count + length put
+-- it can carry it: its cells are there, and its limits are those of the step
+pub record CanCarry (t : ℕ) (connector : FollowedConnector) (places : List Place) (put : List (Option ℕ)) : Type 0 where
+  pub refs : (m : ℕ) → m < 3 → IsWithin (length places) put (ref_at connector.cells m)
+  pub step : connector.course.step ≤ t
+  pub until : t < connector.course.until
 
-abbrev pub IsThere : List Place → (put : List (Option ℕ)) → (spot : ℕ) → Type 0
-IsThere places put spot = IsWithin (length places) put spot
-
--- the cell at a spot
-abbrev pub IsSpotOf : (cells halo : List ℕ) → (i spot : ℕ) → Type 0
-IsSpotOf cells halo i spot =
-    ((spot < length cells) × (slice_index cells spot ≡ i)) ⊎
-    ((j : ℕ) × (spot ≡ length cells + j) × (j < length halo) × (slice_index halo j ≡ i))
-
--- the spots of a connector's cells
-abbrev pub AreSpotsOf : (cells halo : List ℕ) → Connector → (spots : List ℕ) → Type 0
-AreSpotsOf cells halo connector spots = (m : ℕ) → m < 3 → IsSpotOf cells halo (slice_index (three_cells connector) m) (slice_index spots m)
-
--- the spot of the m-th of a tie's cells
-abbrev pub spot_at : Tie → (m : ℕ) → ℕ
-spot_at tie m = slice_index tie.cells m
-
--- the tie is that of a connector of the network: each spot is that of its cell, and its course is the connector's
-pub record IsTie (net : Network) (cells halo : List ℕ) (tie : Tie) : Type 0 where
-  pub there : tie.connector < length net.connectors
-  pub spots : AreSpotsOf cells halo (connector_at net.connectors tie.connector) tie.cells
-  pub course : IsCourseOf net (connector_at net.connectors tie.connector) tie.course
-
--- what the three spots of a tie hold
-abbrev pub three_held : Tie → (held : ℕ → ℕ) → List ℕ
-three_held tie held = held (spot_at tie 0) ∷ held (spot_at tie 1) ∷ held (spot_at tie 2) ∷ []
-
--- what the connector of a tie carries in step t
-abbrev pub carried_of : (t : ℕ) → Tie → (held : ℕ → ℕ) → Flow
-carried_of t tie held = flow_at tie.course t (three_held tie held)
-
--- it can carry it: its spots are there, and its limits are those of the step
-pub record CanCarry (t : ℕ) (tie : Tie) (places : List Place) (put : List (Option ℕ)) : Type 0 where
-  pub spots : (m : ℕ) → m < 3 → IsThere places put (spot_at tie m)
-  pub step : tie.course.step ≤ t
-  pub until : t < tie.course.until
-
--- a tie that was followed to step t carries as before, within the same limits in that step
-pub record IsTieFollowed (t : ℕ) (old new : Tie) : Type 0 where
-  pub connector : new.connector ≡ old.connector
+-- a connector that was followed to step t carries as before, within the same limits in that step
+pub record IsConnectorFollowed (t : ℕ) (old new : FollowedConnector) : Type 0 where
+  pub number : new.number ≡ old.number
   pub cells : new.cells ≡ old.cells
   pub rule : new.course.rule ≡ old.course.rule
   pub flow : (s : ℕ) (n : List ℕ) → flow_at new.course s n ≡ flow_at old.course s n
@@ -76,31 +43,27 @@ pub record IsTieFollowed (t : ℕ) (old new : Tie) : Type 0 where
   pub later : t < new.course.until
 
 -- so do all
-pub record AreTiesFollowed (t : ℕ) (old new : List Tie) : Type 0 where
+pub record AreConnectorsFollowed (t : ℕ) (old new : List FollowedConnector) : Type 0 where
   pub long : length new ≡ length old
-  pub each : (k : ℕ) (d : Tie) → k < length old → IsTieFollowed t (slice_index_or old k d) (slice_index_or new k d)
-
--- so many parts at place p, where that is the spot; of the halo nothing is written
-abbrev pub at_spot : (spot parts p : ℕ) → ℕ
-at_spot spot parts p = if spot == p then parts else 0
+  pub each : (k : ℕ) (d : FollowedConnector) → k < length old → IsConnectorFollowed t (slice_index_or old k d) (slice_index_or new k d)
 
 -- what a connector takes from place p by its rule, and what it brings to it
-abbrev pub taken_by : Rule → Tie → Flow → (p : ℕ) → ℕ
-taken_by Linking tie flow p = at_spot (spot_at tie 0) flow.out1 p
-taken_by Merging tie flow p = at_spot (spot_at tie 0) flow.out1 p + at_spot (spot_at tie 1) flow.out2 p
-taken_by Diverging tie flow p = at_spot (spot_at tie 0) flow.out1 p
+abbrev pub taken_by : Rule → FollowedConnector → Flow → (p : ℕ) → ℕ
+taken_by Linking connector flow p = parts_at (ref_at connector.cells 0) flow.out1 p
+taken_by Merging connector flow p = parts_at (ref_at connector.cells 0) flow.out1 p + parts_at (ref_at connector.cells 1) flow.out2 p
+taken_by Diverging connector flow p = parts_at (ref_at connector.cells 0) flow.out1 p
 
-abbrev pub brought_by : Rule → Tie → Flow → (p : ℕ) → ℕ
-brought_by Linking tie flow p = at_spot (spot_at tie 1) flow.in1 p
-brought_by Merging tie flow p = at_spot (spot_at tie 2) flow.in1 p
-brought_by Diverging tie flow p = at_spot (spot_at tie 1) flow.in1 p + at_spot (spot_at tie 2) flow.in2 p
+abbrev pub brought_by : Rule → FollowedConnector → Flow → (p : ℕ) → ℕ
+brought_by Linking connector flow p = parts_at (ref_at connector.cells 1) flow.in1 p
+brought_by Merging connector flow p = parts_at (ref_at connector.cells 2) flow.in1 p
+brought_by Diverging connector flow p = parts_at (ref_at connector.cells 1) flow.in1 p + parts_at (ref_at connector.cells 2) flow.in2 p
 
--- the same of a tie in step t
-unfoldable pub taken : (t : ℕ) → (held : ℕ → ℕ) → (p : ℕ) → Tie → ℕ
-taken t held p tie = taken_by tie.course.rule tie (carried_of t tie held) p
+-- the same in step t
+unfoldable pub taken : (t : ℕ) → (held : CellRef → ℕ) → (p : ℕ) → FollowedConnector → ℕ
+taken t held p connector = taken_by connector.course.rule connector (carried_of t connector held) p
 
-unfoldable pub brought : (t : ℕ) → (held : ℕ → ℕ) → (p : ℕ) → Tie → ℕ
-brought t held p tie = brought_by tie.course.rule tie (carried_of t tie held) p
+unfoldable pub brought : (t : ℕ) → (held : CellRef → ℕ) → (p : ℕ) → FollowedConnector → ℕ
+brought t held p connector = brought_by connector.course.rule connector (carried_of t connector held) p
 
 -- a place from which so much was taken and to which so much was brought
 abbrev pub passed : Place → (enters leaves : ℕ) → Place
@@ -112,22 +75,22 @@ pub record CanPass (place : Place) (enters leaves : ℕ) : Type 0 where
   pub gone : place.gone + leaves < 2 ^ 64
   pub fits : place.n + enters < 2 ^ 64
 
--- so can each place what this tie takes from it and brings to it in step t, by what the cells held before
-abbrev pub CanTiePass : (t : ℕ) → (before : List ℕ) → (put : List (Option ℕ)) → Tie → List Place → Type 0
-CanTiePass t before put tie places =
-    (p : ℕ) → p < length places → CanPass (place_at places p) (brought t (held_before before put) p tie) (taken t (held_before before put) p tie)
+-- so can each place what this connector takes from it and brings to it in step t, by what the cells held before
+abbrev pub CanConnectorPass : (t : ℕ) → (before : List ℕ) → (put : List (Option ℕ)) → FollowedConnector → List Place → Type 0
+CanConnectorPass t before put connector places =
+    (p : ℕ) → p < length places → CanPass (place_at places p) (brought t (held_before before put) p connector) (taken t (held_before before put) p connector)
 
 -- and it has
-abbrev pub HasTiePassed : (t : ℕ) → (before : List ℕ) → (put : List (Option ℕ)) → Tie → (old new : List Place) → Type 0
-HasTiePassed t before put tie old new =
-    (p : ℕ) → p < length old → place_at new p ≡ passed (place_at old p) (brought t (held_before before put) p tie) (taken t (held_before before put) p tie)
+abbrev pub HasConnectorPassed : (t : ℕ) → (before : List ℕ) → (put : List (Option ℕ)) → FollowedConnector → (old new : List Place) → Type 0
+HasConnectorPassed t before put connector old new =
+    (p : ℕ) → p < length old → place_at new p ≡ passed (place_at old p) (brought t (held_before before put) p connector) (taken t (held_before before put) p connector)
 
--- the same of what all these ties take and bring
-abbrev pub CanTiesPass : (t : ℕ) → (before : List ℕ) → (put : List (Option ℕ)) → List Tie → List Place → Type 0
-CanTiesPass t before put ties places =
-    (p : ℕ) → p < length places → CanPass (place_at places p) (sum_by (brought t (held_before before put) p) ties) (sum_by (taken t (held_before before put) p) ties)
+-- the same of what all these connectors take and bring
+abbrev pub CanConnectorsPass : (t : ℕ) → (before : List ℕ) → (put : List (Option ℕ)) → List FollowedConnector → List Place → Type 0
+CanConnectorsPass t before put connectors places =
+    (p : ℕ) → p < length places → CanPass (place_at places p) (sum_by (brought t (held_before before put) p) connectors) (sum_by (taken t (held_before before put) p) connectors)
 
-abbrev pub HaveTiesPassed : (t : ℕ) → (before : List ℕ) → (put : List (Option ℕ)) → List Tie → (old new : List Place) → Type 0
-HaveTiesPassed t before put ties old new =
+abbrev pub HaveConnectorsPassed : (t : ℕ) → (before : List ℕ) → (put : List (Option ℕ)) → List FollowedConnector → (old new : List Place) → Type 0
+HaveConnectorsPassed t before put connectors old new =
     (p : ℕ) → p < length old →
-    place_at new p ≡ passed (place_at old p) (sum_by (brought t (held_before before put) p) ties) (sum_by (taken t (held_before before put) p) ties)
+    place_at new p ≡ passed (place_at old p) (sum_by (brought t (held_before before put) p) connectors) (sum_by (taken t (held_before before put) p) connectors)

@@ -3,10 +3,11 @@ pub mod Runs
 pub mod Speeds
 pub mod Sweeping
 pub mod Moving
-pub mod Followed
+pub mod FollowedLinks
 pub mod Chains
 pub mod SpeedFactors
 pub mod Rows
+pub mod CellRefs
 pub mod Carrying
 pub mod Moves
 pub mod Gates

@@ -1,5 +1,5 @@
 -- What single connectors take from cells and bring to them, and what a step of a region stands on.
-use Rattle.std.specs.Prelude.{◌≡◌, ◌≢◌, ◌==◌, ℕ, ◌<◌, All, List, Option, None, length, slice_index, slice_index_or, unwrap_or, if◌then◌else◌}
+use Rattle.std.specs.Prelude.{◌≡◌, ◌≢◌, ◌==◌, ℕ, ◌<◌, All, List, Option, length, slice_index, if◌then◌else◌}
 use Rattle.std.specs.List.{sum_by}
 use Rattle.signal_plan.specs.Demand.{demand_at}
 use Rattle.signal_plan.specs.Records.{PlanRecords}
@@ -8,10 +8,11 @@ use Rattle.network_file.specs.Network.{IsNetwork, Network}
 use Rattle.flow_model.specs.Bounds.{IsHeldInBounds}
 use Rattle.flow_model.specs.Flows.{entering, flow_of, leaving}
 use Rattle.region_body.specs.Chains.{AreDistinct}
+use Rattle.region_body.specs.CellRefs.{put_at}
 use Rattle.region_body.specs.Places.{place_at}
 use Rattle.region_body.specs.declared.place.Place.{Place}
-use Rattle.region_body.specs.Carrying.{IsTie}
-use Rattle.region_body.specs.declared.tie.Tie.{Tie}
+use Rattle.region_body.specs.Carrying.{IsConnected}
+use Rattle.region_body.specs.declared.followed_connector.FollowedConnector.{FollowedConnector}
 
 -- what connector k takes from cell i in step t, where the cells hold n
 abbrev pub out_by : Network → (t : ℕ) → (ℕ → ℕ) → (i k : ℕ) → ℕ
@@ -28,25 +29,25 @@ demand_for plan t cells p q = if q == p then demand_at plan (slice_index cells q
 -- the cells hold n: those of the region by their places, those of its halo by what was put there
 pub record IsSeen (n : ℕ → ℕ) (cells halo : List ℕ) (places : List Place) (put : List (Option ℕ)) : Type 0 where
   pub own : (p : ℕ) → p < length cells → n (slice_index cells p) ≡ (place_at places p).n
-  pub around : (j : ℕ) → j < length halo → n (slice_index halo j) ≡ unwrap_or (slice_index_or put j None) 0
+  pub around : (j : ℕ) → j < length halo → n (slice_index halo j) ≡ put_at put j
 
--- ties of a region's connectors: no cell of its halo is its own
-pub record AreTied (net : Network) (cells halo : List ℕ) (ties : List Tie) : Type 0 where
+-- connectors of a region: no cell of its halo is its own
+pub record AreConnected (net : Network) (cells halo : List ℕ) (connectors : List FollowedConnector) : Type 0 where
   pub distinct : AreDistinct cells
   pub apart : (p j : ℕ) → p < length cells → j < length halo → slice_index cells p ≢ slice_index halo j
-  pub tied : All (IsTie net cells halo) ties
+  pub each : All (IsConnected net cells halo) connectors
 
--- from each place goes what the connectors of these ties take from its cell, and to it comes what they bring
-pub record ArePartsOf (net : Network) (t : ℕ) (n : ℕ → ℕ) (cells : List ℕ) (ties : List Tie) (outs ins : ℕ → ℕ) : Type 0 where
-  pub taken : (p : ℕ) → p < length cells → outs p ≡ sum_by (λ tie. out_by net t n (slice_index cells p) tie.connector) ties
-  pub brought : (p : ℕ) → p < length cells → ins p ≡ sum_by (λ tie. in_by net t n (slice_index cells p) tie.connector) ties
+-- from each place goes what these connectors take from its cell, and to it comes what they bring
+pub record ArePartsOf (net : Network) (t : ℕ) (n : ℕ → ℕ) (cells : List ℕ) (connectors : List FollowedConnector) (outs ins : ℕ → ℕ) : Type 0 where
+  pub taken : (p : ℕ) → p < length cells → outs p ≡ sum_by (λ connector. out_by net t n (slice_index cells p) connector.number) connectors
+  pub brought : (p : ℕ) → p < length cells → ins p ≡ sum_by (λ connector. in_by net t n (slice_index cells p) connector.number) connectors
 
--- the region's cells and those of its halo, which are others, with an occupancy in bounds for each, and ties of its connectors
-pub record IsScene (net : Network) (t : ℕ) (cells halo : List ℕ) (ties : List Tie) (places : List Place) (put : List (Option ℕ)) : Type 0 where
+-- the region's cells and those of its halo, which are others, with an occupancy in bounds for each, and its connectors
+pub record IsScene (net : Network) (t : ℕ) (cells halo : List ℕ) (connectors : List FollowedConnector) (places : List Place) (put : List (Option ℕ)) : Type 0 where
   pub sound : IsNetwork net
   pub before : t < net.steps
-  pub tied : AreTied net cells halo ties
+  pub connected : AreConnected net cells halo connectors
   pub place_each : length places ≡ length cells
   pub put_each : length put ≡ length halo
   pub own : (p : ℕ) → p < length cells → IsHeldInBounds net t (slice_index cells p) (place_at places p).n
-  pub around : (j : ℕ) → j < length halo → IsHeldInBounds net t (slice_index halo j) (unwrap_or (slice_index_or put j None) 0)
+  pub around : (j : ℕ) → j < length halo → IsHeldInBounds net t (slice_index halo j) (put_at put j)

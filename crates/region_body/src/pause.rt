@@ -1,15 +1,15 @@
 ghost use Rattle.std.specs.Prelude.{◌≡◌, ◌<◌, ◌≤◌, ◌⊎◌, ℕ, All, IsTrue, length};
 ghost use Rattle.connector_flow.specs.Flows.{flow_at, no_flow};
 ghost use Rattle.region_body.specs.Places.{AreSound, place_at};
-ghost use Rattle.region_body.specs.Carrying.{IsThere, held_in, spot_at, three_held};
+ghost use Rattle.region_body.specs.Carrying.{three_held};
+ghost use Rattle.region_body.specs.CellRefs.{IsWithin, held_in, ref_at};
 ghost use Rattle.region_body.specs.Pausing.{AreIdle, IsIdleUntil};
 
-use crate::followed::FollowedLink;
+use crate::followed_connector::FollowedConnector;
+use crate::followed_link::FollowedLink;
 use crate::movement::moving;
 use crate::place::Place;
-use crate::sight::Sight;
 use crate::speed_factor::SpeedFactor;
-use crate::tie::Tie;
 
 /// For how long nothing moves among cells.
 #[derive(Clone, Copy)]
@@ -39,14 +39,14 @@ impl Pause {
         speeds: &[SpeedFactor],
         speeds_until: u64,
         links: &[FollowedLink],
-        ties: &[Tie],
+        connectors: &[FollowedConnector],
         put: &[Option<u64>],
     ) -> Pause
         requires sound { AreSound places.now }
         requires there { All (λ link. link.place < length places.now) links.now }
-        requires spots { All (λ tie. (m : ℕ) → m < 3 → IsThere places.now put.now (spot_at tie m)) ties.now }
+        requires cells { All (λ connector. (m : ℕ) → m < 3 → IsWithin (length places.now) put.now (ref_at connector.cells m)) connectors.now }
         ensures none_owed { result.owed ≡ 0 }
-        ensures idle { (s : ℕ) → s < result.until → AreIdle places.now speeds.now speeds_until links.now ties.now put.now result.until }
+        ensures idle { (s : ℕ) → s < result.until → AreIdle places.now speeds.now speeds_until links.now connectors.now put.now result.until }
     {
         match moving(places, speeds, mover) {
             Some(mover) => Pause {
@@ -58,7 +58,7 @@ impl Pause {
                 owed: 0,
                 until: links_until(links, places)
                     .min(speeds_until)
-                    .min(ties_until(ties, &Sight { places, put })),
+                    .min(connectors_until(connectors, places, put)),
                 mover,
             },
         }
@@ -80,13 +80,13 @@ fn links_until(links: &[FollowedLink], places: &[Place]) -> u64
 }
 
 // A step before which none of these connectors carries anything as long as their cells hold what they do; 0 where one does.
-fn ties_until(ties: &[Tie], sight: &Sight) -> u64
-    requires { All (λ tie. (m : ℕ) → m < 3 → IsThere sight.now.places.now sight.now.put.now (spot_at tie m)) ties.now }
-    ensures { All (IsIdleUntil sight.now.places.now sight.now.put.now result) ties.now }
+fn connectors_until(connectors: &[FollowedConnector], places: &[Place], put: &[Option<u64>]) -> u64
+    requires { All (λ connector. (m : ℕ) → m < 3 → IsWithin (length places.now) put.now (ref_at connector.cells m)) connectors.now }
+    ensures { All (IsIdleUntil places.now put.now result) connectors.now }
 {
     let mut until = u64::MAX;
-    for tie in ties {
-        until = until.min(tie.course.idle_until(held_by(tie, sight)));
+    for connector in connectors {
+        until = until.min(connector.course.idle_until(held_by(connector, places, put)));
         if until == 0 {
             return 0;
         }
@@ -94,13 +94,17 @@ fn ties_until(ties: &[Tie], sight: &Sight) -> u64
     until
 }
 
-// What the cells at its spots hold.
-fn held_by(tie: &Tie, sight: &Sight) -> [u64; 3]
-    requires { (m : ℕ) → m < 3 → IsThere sight.now.places.now sight.now.put.now (spot_at tie.now m) }
-    ensures { result ≡ three_held tie.now (held_in sight.now.places.now sight.now.put.now) }
+// What its cells hold.
+fn held_by(connector: &FollowedConnector, places: &[Place], put: &[Option<u64>]) -> [u64; 3]
+    requires { (m : ℕ) → m < 3 → IsWithin (length places.now) put.now (ref_at connector.now.cells m) }
+    ensures { result ≡ three_held connector.now (held_in places.now put.now) }
 {
-    let [a, b, c] = tie.cells;
-    [sight.held(a), sight.held(b), sight.held(c)]
+    let [a, b, c] = connector.cells;
+    [
+        a.held_in(places, put),
+        b.held_in(places, put),
+        c.held_in(places, put),
+    ]
 }
 
 /// Whether two halos hold the same.
