@@ -34,13 +34,11 @@ received-is : (n q : ℕ) (space : Space) (room : Option Room) → IsSpaceOf spa
 received-is n q space (Some room) is has = ap (min q) (is n has).1
 received-is n q space None is has = let large : q ≤ let_in space n = (is n q has).1 in omega arith
 
--- a cell has space for what it holds and a step's capacity
-pub has-space : (net : Network) (t i n : ℕ) → IsNetwork net → t < net.steps → i < length net.cells → IsHeldInBounds net t i n →
-    HasSpace n (capacity_at net.plan i t) (room_at net.cells i)
-has-space net t i n sound before has bounds =
+-- a cell has space for what it holds and no more than a step's capacity
+pub has-space : (net : Network) (t i n q : ℕ) → IsNetwork net → t ≤ net.steps → i < length net.cells → IsHeldInBounds net t i n → q ≤ most_capacity →
+    HasSpace n q (room_at net.cells i)
+has-space net t i n q sound in_time has bounds few =
     let here = cell_at net.cells i has in
-    let q : ℕ = capacity_at net.plan i t in
-    let few : q ≤ most_capacity = capacity_at-le net t i sound has in
     let steps = sound.few_steps in
     let road = rw here.1 at bounds.road in
     let gate = rw here.1 at bounds.gate in
@@ -57,4 +55,6 @@ pub receiving-is : (net : Network) (t i n : ℕ) (space : Space) → IsNetwork n
     IsSpaceOf space (room_at net.cells i) → IsHeldInBounds net t i n → received (most_by net.plan i false t) space n ≡ receiving_at net t i n
 unfolding receiving_at most_by
 receiving-is net t i n space sound before has is bounds =
-    received-is n (capacity_at net.plan i t) space (room_at net.cells i) is (has-space net t i n sound before has bounds)
+    let few : capacity_at net.plan i t ≤ most_capacity = capacity_at-le net t i sound has in
+    received-is n (capacity_at net.plan i t) space (room_at net.cells i) is
+    (has-space net t i n (capacity_at net.plan i t) sound (omega (arith, before)) has bounds few)

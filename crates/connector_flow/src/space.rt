@@ -47,7 +47,7 @@ impl Space {
         } else {
             Space {
                 storage: room.most,
-                factor: factor_of(room.num, room.den),
+                factor: room_factor(room.num, room.den),
             }
         }
     }
@@ -66,7 +66,7 @@ impl Space {
 }
 
 // The factor of a ratio below 1: `floor(A * 2^64 / B) + 1`.
-fn factor_of(num: u32, den: u32) -> u64
+fn room_factor(num: u32, den: u32) -> u64
     requires positive { 1 ≤ num }
     requires below { num < den }
     ensures { result ≡ num * 2 ^ 64 / den + 1 }

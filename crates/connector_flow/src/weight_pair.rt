@@ -16,13 +16,13 @@ pub(crate) struct WeightPair {
 
 impl Model for WeightPair {
     ghost use Rattle.std.specs.Prelude.{ℕ};
-    ghost use Rattle.connector_flow.specs.Factors.{HaveFactor, factor_of};
+    ghost use Rattle.connector_flow.specs.Factors.{HaveFactor, weight_factor};
 
     ghost Value = { ℕ × ℕ };
 
     ghost view = { λ weights. (weights.first, weights.second) };
 
-    ghost inverse = { λ pair. record { first = pair.0; second = pair.1; factor = factor_of pair } };
+    ghost inverse = { λ pair. record { first = pair.0; second = pair.1; factor = weight_factor pair } };
 
     ghost inverse_ok = { λ weights held i. record { first = weights.first; second = weights.second; factor = held.factor_is i } };
 

@@ -15,12 +15,12 @@ use Rattle.region_body.specs.declared.place.Place.{Place}
 use Rattle.region_cut.proofs.Anys.{finds}
 use Rattle.region_cut.proofs.Ranges.{range-Contains}
 use Rattle.courses.specs.Links.{most_between}
-use Rattle.region_body.specs.Followed.{AreFollowed, IsThere}
-use Rattle.region_body.specs.declared.followed.FollowedLink.{FollowedLink}
+use Rattle.region_body.specs.FollowedLinks.{AreFollowed, IsLinkThere}
+use Rattle.region_body.specs.declared.followed_link.FollowedLink.{FollowedLink}
 use Rattle.region_body.specs.Chains.{AreDistinct, is_chained, is_joined, is_link, most_out, odd_ones}
 use Rattle.region_body.specs.Joining.{Extends, IsAt}
-use Rattle.region_body.specs.Carrying.{IsTie}
-use Rattle.region_body.specs.declared.tie.Tie.{Tie}
+use Rattle.region_body.specs.Carrying.{IsConnected}
+use Rattle.region_body.specs.declared.followed_connector.FollowedConnector.{FollowedConnector}
 use Rattle.region_body.proofs.Links.{link-is}
 
 -- one connector more
@@ -149,14 +149,14 @@ odd-more net cells connectors j b within is =
     one odd x false is = rw is refl
 
 -- the places keep all but their most
-pub record AreJoined (net : Network) (t : ℕ) (cells halo connectors : List ℕ) (first places : List Place) (links : List FollowedLink) (ties : List Tie) : Type 0 where
+pub record AreJoined (net : Network) (t : ℕ) (cells halo connectors : List ℕ) (first places : List Place) (links : List FollowedLink) (others : List FollowedConnector) : Type 0 where
   pub only_most : (q : ℕ) → place_at places q ≡ record (place_at first q) { most = (place_at places q).most }
-  pub links_there : All (IsThere (length cells) t) links
+  pub links_there : All (IsLinkThere (length cells) t) links
   pub joined : All (λ link. is_joined net cells connectors link.place ≡ true) links
   pub followed : AreFollowed (most_out net cells connectors) places links t
-  pub numbers : map (λ tie. tie.connector) ties ≡ odd_ones net cells connectors
-  pub tied : All (IsTie net cells halo) ties
-  pub come : All (λ tie. tie.course.step ≤ t) ties
+  pub numbers : map (λ followed. followed.number) others ≡ odd_ones net cells connectors
+  pub connected : All (IsConnected net cells halo) others
+  pub come : All (λ followed. followed.course.step ≤ t) others
 
 pub joined-none : (net : Network) (t : ℕ) (cells halo connectors : List ℕ) (places : List Place) → ((p : ℕ) → (place_at places p).most ≡ 0) →
     AreJoined net t cells halo (take 0 connectors) places places [] []
@@ -166,18 +166,18 @@ joined-none net t cells halo connectors places none = record {
   joined = λ k d within. absurd (omega arith);
   followed = followed-none net cells connectors places t none;
   numbers = refl;
-  tied = λ k d within. absurd (omega arith);
+  connected = λ k d within. absurd (omega arith);
   come = λ k d within. absurd (omega arith);
 }
 
 -- a chained connector more
-pub joined-chained : (net : Network) (t : ℕ) (cells halo connectors : List ℕ) (first places after : List Place) (links later : List FollowedLink) (ties : List Tie)
+pub joined-chained : (net : Network) (t : ℕ) (cells halo connectors : List ℕ) (first places after : List Place) (links later : List FollowedLink) (others : List FollowedConnector)
     (j p : ℕ) → j < length connectors → AreDistinct cells → is_link cells p (connector_at net.connectors (get_or connectors j 0)) ≡ true →
-    AreJoined net t cells halo (take j connectors) first places links ties → All (IsThere (length cells) t) later → IsAt p links later →
+    AreJoined net t cells halo (take j connectors) first places links others → All (IsLinkThere (length cells) t) later → IsAt p links later →
     ((q : ℕ) → place_at after q ≡ record (place_at places q) { most = (place_at after q).most }) →
     ((most next : ℕ → ℕ → ℕ) → AreFollowed most places links t → Extends net.plan cells p links most next → AreFollowed next after later t) →
-    AreJoined net t cells halo (take (j + 1) connectors) first after later ties
-joined-chained net t cells halo connectors first places after links later ties j p within distinct linked has there at only follows =
+    AreJoined net t cells halo (take (j + 1) connectors) first after later others
+joined-chained net t cells halo connectors first places after links later others j p within distinct linked has there at only follows =
     let connector : Connector = connector_at net.connectors (get_or connectors j 0) in
     let at_link = link-is cells p connector linked in
     let inside = at_link.within in
@@ -192,17 +192,17 @@ joined-chained net t cells halo connectors first places after links later ties j
       followed = follows (most_out net cells (take j connectors)) (most_out net cells (take (j + 1) connectors)) has.followed
           (extends-more net cells connectors j p links within distinct linked has.joined);
       numbers = has.numbers ∙ sym (odd-more net cells connectors j true within chained ∙ append-nil (odd_ones net cells (take j connectors)));
-      tied = has.tied;
+      connected = has.connected;
       come = has.come;
     }
 
 -- another more
-pub joined-odd : (net : Network) (t : ℕ) (cells halo connectors : List ℕ) (first places : List Place) (links : List FollowedLink) (ties : List Tie) (tie : Tie)
+pub joined-odd : (net : Network) (t : ℕ) (cells halo connectors : List ℕ) (first places : List Place) (links : List FollowedLink) (others : List FollowedConnector) (followed : FollowedConnector)
     (j : ℕ) → j < length connectors → is_chained cells (connector_at net.connectors (get_or connectors j 0)) ≡ false →
-    tie.connector ≡ get_or connectors j 0 → IsTie net cells halo tie → tie.course.step ≡ 0 →
-    AreJoined net t cells halo (take j connectors) first places links ties →
-    AreJoined net t cells halo (take (j + 1) connectors) first places links (ties ++ tie ∷ [])
-joined-odd net t cells halo connectors first places links ties tie j within odd number tied step has = record {
+    followed.number ≡ get_or connectors j 0 → IsConnected net cells halo followed → followed.course.step ≡ 0 →
+    AreJoined net t cells halo (take j connectors) first places links others →
+    AreJoined net t cells halo (take (j + 1) connectors) first places links (others ++ followed ∷ [])
+joined-odd net t cells halo connectors first places links others followed j within odd number connected step has = record {
   only_most = has.only_most;
   links_there = has.links_there;
   joined = λ k d lt.
@@ -210,8 +210,8 @@ joined-odd net t cells halo connectors first places links ties tie j within odd 
       ∙ ap (λ b. b || is_link cells (get_or links k d).place (connector_at net.connectors (get_or connectors j 0))) (has.joined k d lt);
   followed = followed-same (most_out net cells (take j connectors)) (most_out net cells (take (j + 1) connectors)) places links t
       (λ q s. unchained-more net cells connectors j q s within odd) has.followed;
-  numbers = map-append (λ tie. tie.connector) ties (tie ∷ []) ∙ ap (λ list. list ++ tie.connector ∷ []) has.numbers
+  numbers = map-append (λ followed. followed.number) others (followed ∷ []) ∙ ap (λ list. list ++ followed.number ∷ []) has.numbers
       ∙ ap (λ k. odd_ones net cells (take j connectors) ++ k ∷ []) number ∙ sym (odd-more net cells connectors j false within odd);
-  tied = All-push (IsTie net cells halo) ties tie has.tied tied;
-  come = All-push (λ tie. tie.course.step ≤ t) ties tie has.come (omega arith);
+  connected = All-push (IsConnected net cells halo) others followed has.connected connected;
+  come = All-push (λ followed. followed.course.step ≤ t) others followed has.come (omega arith);
 }

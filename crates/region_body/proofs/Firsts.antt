@@ -15,43 +15,44 @@ use Rattle.region_body.specs.Places.{place_at}
 use Rattle.connector_flow.specs.Space.{IsSpaceOf}
 use Rattle.region_body.specs.declared.place.Place.{Place}
 use Rattle.region_body.proofs.LinkFlows.{held-fits}
-use Rattle.region_body.specs.First.{IsFirst, IsOriginOf}
-use Rattle.region_body.specs.Rows.{AreSettled, IsOf, origin_at, row_of, rows_of}
-use Rattle.region_body.proofs.Whole.{has-space, length-rows_of, row_at-rows_of}
-use Rattle.region_body.specs.declared.origin.Origin.{Origin}
+use Rattle.region_body.specs.First.{AreConstantsOf, IsFirst}
+use Rattle.region_body.specs.Rows.{AreSettled, IsOf, constants_at, row_of, rows_of}
+use Rattle.connector_flow.proofs.Spaces.{has-space}
+use Rattle.region_body.proofs.Whole.{length-rows_of, row_at-rows_of}
+use Rattle.region_body.specs.declared.cell_constants.CellConstants.{CellConstants}
 
 row_same : (row : Row) {n come gone wait : ℕ} → n ≡ row.n → come ≡ row.come → gone ≡ row.gone → wait ≡ row.wait →
     record { n = n; come = come; gone = gone; wait = wait } ≡ row
 row_same row e1 e2 e3 e4 = rw (e1, e2, e3, e4) refl
 
-pub first-row : (net : Network) (t i : ℕ) (row : Row) (origin : Origin) (place : Place) → IsOriginOf net i origin → IsFirst net i row place →
-    IsRowInBounds net t i row → (row_of origin place ≡ row) × IsOf net i origin place
-first-row net t i row origin place origin_is place_is bounds = elim (cases_Bool origin.is_exit) [
+pub first-row : (net : Network) (t i : ℕ) (row : Row) (constants : CellConstants) (place : Place) → AreConstantsOf net i constants → IsFirst net i row place →
+    IsRowInBounds net t i row → (row_of constants place ≡ row) × IsOf net i constants place
+first-row net t i row constants place constants_are place_is bounds = elim (cases_Bool constants.is_exit) [
   | inl exit ↦
-      let at : is_exit_at net.cells i ≡ true = sym origin_is.exit ∙ exit in
+      let at : is_exit_at net.cells i ≡ true = sym constants_are.exit ∙ exit in
       let come = bounds.exit_come at in
       let wait = bounds.exit_wait at in
       let n = place_is.n in
       let gone = place_is.gone in (
         rw exit (row_same row n (n ∙ sym come) gone (sym wait)),
         record {
-          first = origin_is.first;
-          exit = origin_is.exit;
+          first = constants_are.first;
+          exit = constants_are.exit;
           began = λ other. cc;
           sums = λ other. cc;
         },
       )
   | inr other ↦
-      let at : is_exit_at net.cells i ≡ false = sym origin_is.exit ∙ other in
+      let at : is_exit_at net.cells i ≡ false = sym constants_are.exit ∙ other in
       let balance = bounds.balance at in
       let n = place_is.n in
       let gone = place_is.gone in
       let held = place_is.held in
-      let first = origin_is.first in (
+      let first = constants_are.first in (
         rw other (row_same row n (omega arith) gone (omega arith)),
         record {
-          first = origin_is.first;
-          exit = origin_is.exit;
+          first = constants_are.first;
+          exit = constants_are.exit;
           began = λ same. omega arith;
           sums = λ same. omega arith;
         },
@@ -59,48 +60,48 @@ first-row net t i row origin place origin_is place_is bounds = elim (cases_Bool 
 ]
 
 -- all cells as they are opened
-pub record AreOpened (net : Network) (t : ℕ) (cells : List ℕ) (rows : List Row) (origins : List Origin) (first after : List Place) : Type 0 where
+pub record AreOpened (net : Network) (t : ℕ) (cells : List ℕ) (rows : List Row) (constants : List CellConstants) (first after : List Place) : Type 0 where
   pub sound : IsNetwork net
   pub in_time : t ≤ net.steps
   pub there : All (λ i. i < length net.cells) cells
   pub bounds : All (λ i. IsRowInBounds net t i (row_at rows i)) cells
-  pub origin_each : length origins ≡ length cells
+  pub constants_each : length constants ≡ length cells
   pub first_each : length first ≡ length cells
   pub after_each : length after ≡ length first
-  pub origin : (p : ℕ) → p < length cells → IsOriginOf net (slice_index cells p) (origin_at origins p)
+  pub constants_are : (p : ℕ) → p < length cells → AreConstantsOf net (slice_index cells p) (constants_at constants p)
   pub first_is : (p : ℕ) → p < length cells → IsFirst net (slice_index cells p) (row_at rows (slice_index cells p)) (place_at first p)
   pub only_most : (p : ℕ) → place_at after p ≡ record (place_at first p) { most = (place_at after p).most }
 
-pub opened-cell : (net : Network) (t : ℕ) (cells : List ℕ) (rows : List Row) (origins : List Origin) (first after : List Place) (p : ℕ) →
-    AreOpened net t cells rows origins first after → p < length cells →
-    (row_of (origin_at origins p) (place_at after p) ≡ row_at rows (slice_index cells p)) × IsOf net (slice_index cells p) (origin_at origins p) (place_at after p)
-opened-cell net t cells rows origins first after p opened within =
+pub opened-cell : (net : Network) (t : ℕ) (cells : List ℕ) (rows : List Row) (constants : List CellConstants) (first after : List Place) (p : ℕ) →
+    AreOpened net t cells rows constants first after → p < length cells →
+    (row_of (constants_at constants p) (place_at after p) ≡ row_at rows (slice_index cells p)) × IsOf net (slice_index cells p) (constants_at constants p) (place_at after p)
+opened-cell net t cells rows constants first after p opened within =
     let i : ℕ = slice_index cells p in
-    let is = first-row net t i (row_at rows i) (origin_at origins p) (place_at first p) (opened.origin p within) (opened.first_is p within) (opened.bounds p 0 within) in
+    let is = first-row net t i (row_at rows i) (constants_at constants p) (place_at first p) (opened.constants_are p within) (opened.first_is p within) (opened.bounds p 0 within) in
     let of_cell = is.1 in
     rw (opened.only_most p) (is.0, record { first = of_cell.first; exit = of_cell.exit; began = of_cell.began; sums = of_cell.sums })
 
-pub opened-rows : (net : Network) (t : ℕ) (cells : List ℕ) (rows : List Row) (origins : List Origin) (first after : List Place) →
-    AreOpened net t cells rows origins first after → rows_of origins after ≡ map (row_at rows) cells
-opened-rows net t cells rows origins first after opened =
-    ext_get_or empty_row (rows_of origins after) (map (row_at rows) cells)
-    (length-rows_of origins after ∙ opened.origin_each ∙ sym (length-map cells (row_at rows)))
+pub opened-rows : (net : Network) (t : ℕ) (cells : List ℕ) (rows : List Row) (constants : List CellConstants) (first after : List Place) →
+    AreOpened net t cells rows constants first after → rows_of constants after ≡ map (row_at rows) cells
+opened-rows net t cells rows constants first after opened =
+    ext_get_or empty_row (rows_of constants after) (map (row_at rows) cells)
+    (length-rows_of constants after ∙ opened.constants_each ∙ sym (length-map cells (row_at rows)))
     (λ p lt.
-    let inside : p < length origins = omega (arith, length-rows_of origins after) in
-    let within : p < length cells = omega (arith, opened.origin_each) in
-    row_at-rows_of origins after p inside
-    ∙ (opened-cell net t cells rows origins first after p opened within).0
+    let inside : p < length constants = omega (arith, length-rows_of constants after) in
+    let within : p < length cells = omega (arith, opened.constants_each) in
+    row_at-rows_of constants after p inside
+    ∙ (opened-cell net t cells rows constants first after p opened within).0
     ∙ sym (get_or-map (row_at rows) cells p 0 empty_row within))
 
-pub opened-settled : (net : Network) (t : ℕ) (cells : List ℕ) (rows : List Row) (origins : List Origin) (first after : List Place) (before : List ℕ) →
-    AreOpened net t cells rows origins first after → length before ≡ length cells → AreSettled origins after before
-opened-settled net t cells rows origins first after before opened long = record {
-  one_each = opened.after_each ∙ opened.first_each ∙ sym opened.origin_each;
-  before_each = long ∙ sym opened.origin_each;
+pub opened-settled : (net : Network) (t : ℕ) (cells : List ℕ) (rows : List Row) (constants : List CellConstants) (first after : List Place) (before : List ℕ) →
+    AreOpened net t cells rows constants first after → length before ≡ length cells → AreSettled constants after before
+opened-settled net t cells rows constants first after before opened long = record {
+  one_each = opened.after_each ∙ opened.first_each ∙ sym opened.constants_each;
+  before_each = long ∙ sym opened.constants_each;
   each = λ p inside.
-      let within : p < length cells = omega (arith, opened.origin_each) in
+      let within : p < length cells = omega (arith, opened.constants_each) in
       let i : ℕ = slice_index cells p in
-      let cell = opened-cell net t cells rows origins first after p opened within in
+      let cell = opened-cell net t cells rows constants first after p opened within in
       let few = small net t i (row_at rows i) opened.sound opened.in_time (opened.there p 0 within) (opened.bounds p 0 within) in
       let n = ap (λ row. row.n) cell.0 in
       let gone = ap (λ row. row.gone) cell.0 in
@@ -114,6 +115,6 @@ opened-settled net t cells rows origins first after before opened long = record 
         sums = cell.1.sums;
         fits = omega arith;
         room = held-fits (place_at after p).n 0 (place_at after p).space (room_at net.cells i) space
-            (has-space net t i (place_at after p).n 0 (opened.there p 0 within) held (omega arith));
+            (has-space net t i (place_at after p).n 0 opened.sound opened.in_time (opened.there p 0 within) held (omega arith));
       };
 }

@@ -7,8 +7,8 @@ use Rattle.std.proofs.lemmas.List.{get_or-set_same, get_or-set_other}
 use Rattle.region_body.specs.Places.{no_place, place_at}
 use Rattle.region_body.specs.declared.place.Place.{Place}
 use Rattle.courses.specs.Links.{most_at}
-use Rattle.region_body.specs.Followed.{AreFollowed, IsChanged, IsCourse, IsFollowed, IsThere, IsUnchanged}
-use Rattle.region_body.specs.declared.followed.FollowedLink.{FollowedLink}
+use Rattle.region_body.specs.FollowedLinks.{AreFollowed, IsChanged, IsCourse, IsFollowed, IsLinkThere, IsUnchanged}
+use Rattle.region_body.specs.declared.followed_link.FollowedLink.{FollowedLink}
 
 -- the first j links are refreshed: all follow on, no place has changed but for its most, and where one of the first j
 -- follows a place it has the most of step t
@@ -225,7 +225,7 @@ refreshed-all most first places links t j p refreshed all within =
 
 -- links that are there stay there
 pub there-more : (places t j : ℕ) (links : List FollowedLink) (old new : FollowedLink) → j < length links → get_or links j old ≡ old →
-    new.place ≡ old.place → new.course.step ≤ t → All (IsThere places t) links → All (IsThere places t) (set links j new)
+    new.place ≡ old.place → new.course.step ≤ t → All (IsLinkThere places t) links → All (IsLinkThere places t) (set links j new)
 there-more places t j links old new within read its step there = λ k d inside. elim (cases_eq k j) [
   | inl same ↦
       let was = rw read at (there j old within) in

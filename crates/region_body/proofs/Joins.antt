@@ -9,8 +9,8 @@ use Rattle.region_body.specs.Places.{no_place, place_at}
 use Rattle.region_body.specs.declared.place.Place.{Place}
 use Rattle.courses.specs.Courses.{IsSteady}
 use Rattle.courses.specs.Links.{LinkValues, most_at, most_between}
-use Rattle.region_body.specs.Followed.{AreFollowed, IsCourse, IsFollowed}
-use Rattle.region_body.specs.declared.followed.FollowedLink.{FollowedLink}
+use Rattle.region_body.specs.FollowedLinks.{AreFollowed, IsCourse, IsFollowed}
+use Rattle.region_body.specs.declared.followed_link.FollowedLink.{FollowedLink}
 use Rattle.region_body.specs.Joining.{Extends}
 
 -- the course of the link from the p-th cell to the next, and what its place carries at most from step t on

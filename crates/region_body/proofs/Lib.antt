@@ -13,7 +13,9 @@ pub mod Stepping
 pub mod MovedPlaces
 pub mod Ruled
 pub mod Parting
-pub mod Ties
+pub mod SameMaps
+pub mod FollowedConnectors
+pub mod Gates
 pub mod Renewed
 pub mod Whole
 pub mod Stepped

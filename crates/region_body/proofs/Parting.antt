@@ -16,15 +16,15 @@ use Rattle.region_body.specs.declared.place.Place.{Place}
 use Rattle.signal_plan.proofs.Sums.{sum_by-same}
 use Rattle.region_cut.specs.ConnectorCells.{three_cells}
 use Rattle.connector_flow.specs.Following.{rule_of}
-use Rattle.region_body.specs.Carrying.{CanCarry, IsTie, brought, brought_by, carried_of, taken, taken_by, three_held}
+use Rattle.region_body.specs.Carrying.{CanCarry, IsConnected, brought, brought_by, carried_of, taken, taken_by, three_held}
 use Rattle.region_body.specs.CellRefs.{AreRefsOf, IsRefOf, IsWithin, held_in, parts_at, ref_at}
-use Rattle.region_body.specs.Moves.{AreTied, ArePartsOf, IsScene, IsSeen, in_by, out_by}
-use Rattle.region_body.specs.declared.tie.Tie.{Tie}
+use Rattle.region_body.specs.Moves.{AreConnected, ArePartsOf, IsScene, IsSeen, in_by, out_by}
+use Rattle.region_body.specs.declared.followed_connector.FollowedConnector.{FollowedConnector}
 
 -- so many parts of a cell are those at its place
-part-at : (net : Network) (ties : List Tie) (cells halo : List ℕ) (i p parts : ℕ) (cell : CellRef) → AreTied net cells halo ties → p < length cells → IsRefOf cells halo i cell →
+part-at : (net : Network) (others : List FollowedConnector) (cells halo : List ℕ) (i p parts : ℕ) (cell : CellRef) → AreConnected net cells halo others → p < length cells → IsRefOf cells halo i cell →
     parts_at cell parts p ≡ (if slice_index cells p == i then parts else 0)
-part-at net ties cells halo i p parts (Own own) apart within found = elim (cases_eq p own) [
+part-at net others cells halo i p parts (Own own) apart within found = elim (cases_eq p own) [
   | inl same ↦
       let its : (slice_index cells p == i) ≡ true = eq-eqb (slice_index cells p) i (ap (slice_index cells) same ∙ found.is) in
       let here : (own == p) ≡ true = eq-eqb own p (sym same) in
@@ -35,32 +35,32 @@ part-at net ties cells halo i p parts (Own own) apart within found = elim (cases
       let there_not : (own == p) ≡ false = ne_eqb own p (λ equal. other (sym equal)) in
       rw (away, there_not) refl
 ]
-part-at net ties cells halo i p parts (Halo j) apart within found =
+part-at net others cells halo i p parts (Halo j) apart within found =
     let away : (slice_index cells p == i) ≡ false = ne_eqb (slice_index cells p) i (λ equal. apart.apart p j within found.within (equal ∙ sym found.is)) in
     rw away refl
 
 -- what a connector takes from a place it takes from its cell, and what it brings to it it brings to its cell
-taken-from : (net : Network) (ties : List Tie) (cells halo : List ℕ) (connector : Connector) (tie : Tie) (flow : Flow) (p : ℕ) → AreTied net cells halo ties → p < length cells →
-    AreRefsOf cells halo connector tie.cells → taken_by (rule_of connector) tie flow p ≡ leaving (slice_index cells p) connector flow
-taken-from net ties cells halo (Link up down) tie flow p apart within refs =
-    let one = part-at net ties cells halo up p flow.out1 (ref_at tie.cells 0) apart within (refs 0 (omega arith)) in omega arith
-taken-from net ties cells halo (Merge up1 up2 down p1 p2) tie flow p apart within refs =
-    let one = part-at net ties cells halo up1 p flow.out1 (ref_at tie.cells 0) apart within (refs 0 (omega arith)) in
-    let two = part-at net ties cells halo up2 p flow.out2 (ref_at tie.cells 1) apart within (refs 1 (omega arith)) in omega arith
-taken-from net ties cells halo (Diverge up down1 down2 b1 b2) tie flow p apart within refs =
-    let one = part-at net ties cells halo up p flow.out1 (ref_at tie.cells 0) apart within (refs 0 (omega arith)) in omega arith
+taken-from : (net : Network) (others : List FollowedConnector) (cells halo : List ℕ) (connector : Connector) (followed : FollowedConnector) (flow : Flow) (p : ℕ) → AreConnected net cells halo others → p < length cells →
+    AreRefsOf cells halo connector followed.cells → taken_by (rule_of connector) followed flow p ≡ leaving (slice_index cells p) connector flow
+taken-from net others cells halo (Link up down) followed flow p apart within refs =
+    let one = part-at net others cells halo up p flow.out1 (ref_at followed.cells 0) apart within (refs 0 (omega arith)) in omega arith
+taken-from net others cells halo (Merge up1 up2 down p1 p2) followed flow p apart within refs =
+    let one = part-at net others cells halo up1 p flow.out1 (ref_at followed.cells 0) apart within (refs 0 (omega arith)) in
+    let two = part-at net others cells halo up2 p flow.out2 (ref_at followed.cells 1) apart within (refs 1 (omega arith)) in omega arith
+taken-from net others cells halo (Diverge up down1 down2 b1 b2) followed flow p apart within refs =
+    let one = part-at net others cells halo up p flow.out1 (ref_at followed.cells 0) apart within (refs 0 (omega arith)) in omega arith
 
-brought-to : (net : Network) (ties : List Tie) (cells halo : List ℕ) (connector : Connector) (tie : Tie) (flow : Flow) (p : ℕ) → AreTied net cells halo ties → p < length cells →
-    AreRefsOf cells halo connector tie.cells → brought_by (rule_of connector) tie flow p ≡ entering (slice_index cells p) connector flow
-brought-to net ties cells halo (Link up down) tie flow p apart within refs =
-    let one = part-at net ties cells halo down p flow.in1 (ref_at tie.cells 1) apart within (refs 1 (omega arith)) in omega arith
-brought-to net ties cells halo (Merge up1 up2 down p1 p2) tie flow p apart within refs =
-    let one = part-at net ties cells halo down p flow.in1 (ref_at tie.cells 2) apart within (refs 2 (omega arith)) in omega arith
-brought-to net ties cells halo (Diverge up down1 down2 b1 b2) tie flow p apart within refs =
-    let one = part-at net ties cells halo down1 p flow.in1 (ref_at tie.cells 1) apart within (refs 1 (omega arith)) in
-    let two = part-at net ties cells halo down2 p flow.in2 (ref_at tie.cells 2) apart within (refs 2 (omega arith)) in omega arith
+brought-to : (net : Network) (others : List FollowedConnector) (cells halo : List ℕ) (connector : Connector) (followed : FollowedConnector) (flow : Flow) (p : ℕ) → AreConnected net cells halo others → p < length cells →
+    AreRefsOf cells halo connector followed.cells → brought_by (rule_of connector) followed flow p ≡ entering (slice_index cells p) connector flow
+brought-to net others cells halo (Link up down) followed flow p apart within refs =
+    let one = part-at net others cells halo down p flow.in1 (ref_at followed.cells 1) apart within (refs 1 (omega arith)) in omega arith
+brought-to net others cells halo (Merge up1 up2 down p1 p2) followed flow p apart within refs =
+    let one = part-at net others cells halo down p flow.in1 (ref_at followed.cells 2) apart within (refs 2 (omega arith)) in omega arith
+brought-to net others cells halo (Diverge up down1 down2 b1 b2) followed flow p apart within refs =
+    let one = part-at net others cells halo down1 p flow.in1 (ref_at followed.cells 1) apart within (refs 1 (omega arith)) in
+    let two = part-at net others cells halo down2 p flow.in2 (ref_at followed.cells 2) apart within (refs 2 (omega arith)) in omega arith
 
--- what a tie's connector carries is its flow where the cells hold n
+-- what a connector carries is its flow where the cells hold n
 held-seen : (n : ℕ → ℕ) (cells halo : List ℕ) (places : List Place) (put : List (Option ℕ)) (i : ℕ) (cell : CellRef) → IsSeen n cells halo places put →
     IsRefOf cells halo i cell → held_in places put cell ≡ n i
 held-seen n cells halo places put i (Own p) seen found = sym (seen.own p found.within) ∙ ap n found.is
@@ -74,14 +74,14 @@ flow_between-three net t (Link up down) n = refl
 flow_between-three net t (Merge up1 up2 down p1 p2) n = refl
 flow_between-three net t (Diverge up down1 down2 b1 b2) n = refl
 
--- so do the tie's cells
-tie-held : (net : Network) (t : ℕ) (n : ℕ → ℕ) (cells halo : List ℕ) (places : List Place) (put : List (Option ℕ)) (tie : Tie) →
-    IsSeen n cells halo places put → IsTie net cells halo tie →
-    flow_between net t (connector_at net.connectors tie.connector) (three_held tie (held_in places put)) ≡ flow_of net t n (connector_at net.connectors tie.connector)
-tie-held net t n cells halo places put tie seen tied =
-    let connector : Connector = connector_at net.connectors tie.connector in
-    let at : (m : ℕ) → m < 3 → held_in places put (ref_at tie.cells m) ≡ n (slice_index (three_cells connector) m) =
-    λ m few. held-seen n cells halo places put (slice_index (three_cells connector) m) (ref_at tie.cells m) seen (tied.refs m few) in
+-- so do its cells
+cells-held : (net : Network) (t : ℕ) (n : ℕ → ℕ) (cells halo : List ℕ) (places : List Place) (put : List (Option ℕ)) (followed : FollowedConnector) →
+    IsSeen n cells halo places put → IsConnected net cells halo followed →
+    flow_between net t (connector_at net.connectors followed.number) (three_held followed (held_in places put)) ≡ flow_of net t n (connector_at net.connectors followed.number)
+cells-held net t n cells halo places put followed seen connected =
+    let connector : Connector = connector_at net.connectors followed.number in
+    let at : (m : ℕ) → m < 3 → held_in places put (ref_at followed.cells m) ≡ n (slice_index (three_cells connector) m) =
+    λ m few. held-seen n cells halo places put (slice_index (three_cells connector) m) (ref_at followed.cells m) seen (connected.refs m few) in
     let a = at 0 (omega arith) in
     let b = at 1 (omega arith) in
     let c = at 2 (omega arith) in
@@ -93,10 +93,10 @@ is-within : (cells halo : List ℕ) (places : List Place) (put : List (Option �
 is-within cells halo places put i (Own p) place_each put_each found = omega (arith, place_each, found.within)
 is-within cells halo places put i (Halo j) place_each put_each found = omega (arith, put_each, found.within)
 
-held-bounded : (net : Network) (t : ℕ) (cells halo : List ℕ) (ties : List Tie) (places : List Place) (put : List (Option ℕ)) (i : ℕ) (cell : CellRef) →
-    IsScene net t cells halo ties places put → IsRefOf cells halo i cell → IsHeldInBounds net t i (held_in places put cell)
-held-bounded net t cells halo ties places put i (Own p) scene found = rw found.is at (scene.own p found.within)
-held-bounded net t cells halo ties places put i (Halo j) scene found = rw found.is at (scene.around j found.within)
+held-bounded : (net : Network) (t : ℕ) (cells halo : List ℕ) (others : List FollowedConnector) (places : List Place) (put : List (Option ℕ)) (i : ℕ) (cell : CellRef) →
+    IsScene net t cells halo others places put → IsRefOf cells halo i cell → IsHeldInBounds net t i (held_in places put cell)
+held-bounded net t cells halo others places put i (Own p) scene found = rw found.is at (scene.own p found.within)
+held-bounded net t cells halo others places put i (Halo j) scene found = rw found.is at (scene.around j found.within)
 
 -- what the three cells of a connector hold is held in the bounds of each
 pub three_in_bounds : (net : Network) (t : ℕ) (connector : Connector) (a b c : ℕ) → IsHeldInBounds net t (slice_index (three_cells connector) 0) a →
@@ -123,60 +123,60 @@ three_in_bounds net t (Diverge up down1 down2 b1 b2) a b c first second third = 
     at (suc (suc zero)) within = third
     at (suc (suc (suc j))) within = absurd (omega arith)
 
--- what a tie carries is the flow of its connector
-pub carried-is : (net : Network) (t : ℕ) (n : ℕ → ℕ) (cells halo : List ℕ) (ties : List Tie) (places : List Place) (put : List (Option ℕ)) (tie : Tie) →
-    IsScene net t cells halo ties places put → IsSeen n cells halo places put → IsTie net cells halo tie →
-    carried_of t tie (held_in places put) ≡ flow_of net t n (connector_at net.connectors tie.connector)
-carried-is net t n cells halo ties places put tie scene seen tied =
-    let connector : Connector = connector_at net.connectors tie.connector in
-    let at : (m : ℕ) → m < 3 → IsHeldInBounds net t (slice_index (three_cells connector) m) (held_in places put (ref_at tie.cells m)) =
-    λ m few. held-bounded net t cells halo ties places put (slice_index (three_cells connector) m) (ref_at tie.cells m) scene (tied.refs m few) in
-    tied.course.flow t (three_held tie (held_in places put)) scene.before
+-- what it carries is its flow in the network
+pub carried-is : (net : Network) (t : ℕ) (n : ℕ → ℕ) (cells halo : List ℕ) (others : List FollowedConnector) (places : List Place) (put : List (Option ℕ)) (followed : FollowedConnector) →
+    IsScene net t cells halo others places put → IsSeen n cells halo places put → IsConnected net cells halo followed →
+    carried_of t followed (held_in places put) ≡ flow_of net t n (connector_at net.connectors followed.number)
+carried-is net t n cells halo others places put followed scene seen connected =
+    let connector : Connector = connector_at net.connectors followed.number in
+    let at : (m : ℕ) → m < 3 → IsHeldInBounds net t (slice_index (three_cells connector) m) (held_in places put (ref_at followed.cells m)) =
+    λ m few. held-bounded net t cells halo others places put (slice_index (three_cells connector) m) (ref_at followed.cells m) scene (connected.refs m few) in
+    connected.course.flow t (three_held followed (held_in places put)) scene.before
     (three_in_bounds net t connector _ _ _ (at 0 (omega arith)) (at 1 (omega arith)) (at 2 (omega arith)))
-    ∙ tie-held net t n cells halo places put tie seen tied
+    ∙ cells-held net t n cells halo places put followed seen connected
 
-pub refs-there : (net : Network) (cells halo : List ℕ) (places : List Place) (put : List (Option ℕ)) (tie : Tie) → length places ≡ length cells → length put ≡ length halo →
-    IsTie net cells halo tie → (m : ℕ) → m < 3 → IsWithin (length places) put (ref_at tie.cells m)
-refs-there net cells halo places put tie place_each put_each tied m few =
-    is-within cells halo places put (slice_index (three_cells (connector_at net.connectors tie.connector)) m) (ref_at tie.cells m) place_each put_each (tied.refs m few)
+pub refs-there : (net : Network) (cells halo : List ℕ) (places : List Place) (put : List (Option ℕ)) (followed : FollowedConnector) → length places ≡ length cells → length put ≡ length halo →
+    IsConnected net cells halo followed → (m : ℕ) → m < 3 → IsWithin (length places) put (ref_at followed.cells m)
+refs-there net cells halo places put followed place_each put_each connected m few =
+    is-within cells halo places put (slice_index (three_cells (connector_at net.connectors followed.number)) m) (ref_at followed.cells m) place_each put_each (connected.refs m few)
 
-pub can_carry : (net : Network) (t : ℕ) (cells halo : List ℕ) (ties : List Tie) (places : List Place) (put : List (Option ℕ)) (tie : Tie) →
-    IsScene net t cells halo ties places put → IsTie net cells halo tie → tie.course.step ≤ t → t < tie.course.until → CanCarry t tie places put
-can_carry net t cells halo ties places put tie scene tied step until =
+pub can_carry : (net : Network) (t : ℕ) (cells halo : List ℕ) (others : List FollowedConnector) (places : List Place) (put : List (Option ℕ)) (followed : FollowedConnector) →
+    IsScene net t cells halo others places put → IsConnected net cells halo followed → followed.course.step ≤ t → t < followed.course.until → CanCarry t followed places put
+can_carry net t cells halo others places put followed scene connected step until =
     record {
-      refs = refs-there net cells halo places put tie scene.place_each scene.put_each tied;
+      refs = refs-there net cells halo places put followed scene.place_each scene.put_each connected;
       step = step;
       until = until;
     }
 
-carried-same : (t : ℕ) (held other : CellRef → ℕ) (tie : Tie) → ((cell : CellRef) → held cell ≡ other cell) → carried_of t tie held ≡ carried_of t tie other
-carried-same t held other tie same = rw (same (ref_at tie.cells 0), same (ref_at tie.cells 1), same (ref_at tie.cells 2)) refl
+carried-same : (t : ℕ) (held other : CellRef → ℕ) (followed : FollowedConnector) → ((cell : CellRef) → held cell ≡ other cell) → carried_of t followed held ≡ carried_of t followed other
+carried-same t held other followed same = rw (same (ref_at followed.cells 0), same (ref_at followed.cells 1), same (ref_at followed.cells 2)) refl
 
--- what a tie moves is what its connector does
-moves-as : (net : Network) (t : ℕ) (n : ℕ → ℕ) (cells halo : List ℕ) (ties : List Tie) (places : List Place) (put : List (Option ℕ)) (held : CellRef → ℕ) (p : ℕ) (tie : Tie) →
-    IsScene net t cells halo ties places put → IsSeen n cells halo places put → ((cell : CellRef) → held cell ≡ held_in places put cell) →
-    p < length cells → IsTie net cells halo tie →
-    (taken t held p tie ≡ out_by net t n (slice_index cells p) tie.connector) × (brought t held p tie ≡ in_by net t n (slice_index cells p) tie.connector)
+-- what it moves is what it moves in the network
+moves-as : (net : Network) (t : ℕ) (n : ℕ → ℕ) (cells halo : List ℕ) (others : List FollowedConnector) (places : List Place) (put : List (Option ℕ)) (held : CellRef → ℕ) (p : ℕ) (followed : FollowedConnector) →
+    IsScene net t cells halo others places put → IsSeen n cells halo places put → ((cell : CellRef) → held cell ≡ held_in places put cell) →
+    p < length cells → IsConnected net cells halo followed →
+    (taken t held p followed ≡ out_by net t n (slice_index cells p) followed.number) × (brought t held p followed ≡ in_by net t n (slice_index cells p) followed.number)
 unfolding taken brought
-moves-as net t n cells halo ties places put held p tie scene seen same within tied =
-    let connector : Connector = connector_at net.connectors tie.connector in
-    let flow : Flow = carried_of t tie held in
+moves-as net t n cells halo others places put held p followed scene seen same within connected =
+    let connector : Connector = connector_at net.connectors followed.number in
+    let flow : Flow = carried_of t followed held in
     let is : flow ≡ flow_of net t n connector =
-    carried-same t held (held_in places put) tie same ∙ carried-is net t n cells halo ties places put tie scene seen tied in (
-      ap (λ rule. taken_by rule tie flow p) tied.course.rule ∙ taken-from net ties cells halo connector tie flow p scene.tied within tied.refs
+    carried-same t held (held_in places put) followed same ∙ carried-is net t n cells halo others places put followed scene seen connected in (
+      ap (λ rule. taken_by rule followed flow p) connected.course.rule ∙ taken-from net others cells halo connector followed flow p scene.connected within connected.refs
           ∙ ap (leaving (slice_index cells p) connector) is,
-      ap (λ rule. brought_by rule tie flow p) tied.course.rule ∙ brought-to net ties cells halo connector tie flow p scene.tied within tied.refs
+      ap (λ rule. brought_by rule followed flow p) connected.course.rule ∙ brought-to net others cells halo connector followed flow p scene.connected within connected.refs
           ∙ ap (entering (slice_index cells p) connector) is,
     )
 
-pub parts-are : (net : Network) (t : ℕ) (n : ℕ → ℕ) (cells halo : List ℕ) (ties : List Tie) (places : List Place) (put : List (Option ℕ)) (held : CellRef → ℕ) →
-    IsScene net t cells halo ties places put → IsSeen n cells halo places put → ((cell : CellRef) → held cell ≡ held_in places put cell) →
-    ArePartsOf net t n cells ties (λ p. sum_by (taken t held p) ties) (λ p. sum_by (brought t held p) ties)
-parts-are net t n cells halo ties places put held scene seen same = record {
+pub parts-are : (net : Network) (t : ℕ) (n : ℕ → ℕ) (cells halo : List ℕ) (others : List FollowedConnector) (places : List Place) (put : List (Option ℕ)) (held : CellRef → ℕ) →
+    IsScene net t cells halo others places put → IsSeen n cells halo places put → ((cell : CellRef) → held cell ≡ held_in places put cell) →
+    ArePartsOf net t n cells others (λ p. sum_by (taken t held p) others) (λ p. sum_by (brought t held p) others)
+parts-are net t n cells halo others places put held scene seen same = record {
   taken = λ p within.
-      sum_by-same (IsTie net cells halo) (taken t held p) (λ tie. out_by net t n (slice_index cells p) tie.connector) ties
-      (λ tie tied. (moves-as net t n cells halo ties places put held p tie scene seen same within tied).0) scene.tied.tied;
+      sum_by-same (IsConnected net cells halo) (taken t held p) (λ followed. out_by net t n (slice_index cells p) followed.number) others
+      (λ followed connected. (moves-as net t n cells halo others places put held p followed scene seen same within connected).0) scene.connected.each;
   brought = λ p within.
-      sum_by-same (IsTie net cells halo) (brought t held p) (λ tie. in_by net t n (slice_index cells p) tie.connector) ties
-      (λ tie tied. (moves-as net t n cells halo ties places put held p tie scene seen same within tied).1) scene.tied.tied;
+      sum_by-same (IsConnected net cells halo) (brought t held p) (λ followed. in_by net t n (slice_index cells p) followed.number) others
+      (λ followed connected. (moves-as net t n cells halo others places put held p followed scene seen same within connected).1) scene.connected.each;
 }

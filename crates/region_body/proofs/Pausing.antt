@@ -21,8 +21,8 @@ use Rattle.region_body.specs.declared.place.Place.{Place}
 use Rattle.region_body.proofs.Neighbours.{link_in-first, link_in-more, place_at-past}
 use Rattle.courses.specs.Cells.{CellValues}
 use Rattle.courses.specs.Courses.{Course, value_at}
-use Rattle.region_body.specs.Followed.{AreFollowed}
-use Rattle.region_body.specs.declared.followed.FollowedLink.{FollowedLink}
+use Rattle.region_body.specs.FollowedLinks.{AreFollowed}
+use Rattle.region_body.specs.declared.followed_link.FollowedLink.{FollowedLink}
 use Rattle.region_body.specs.Carrying.{three_held}
 use Rattle.region_body.specs.CellRefs.{held_in, ref_at}
 use Rattle.region_body.specs.Chains.{most_out}
@@ -30,17 +30,17 @@ use Rattle.region_body.specs.Gates.{AreGatesKept, demand_into}
 use Rattle.region_body.specs.Moves.{ArePartsOf, IsScene, IsSeen, in_by, out_by}
 use Rattle.region_body.specs.Pausing.{AreIdle, IsIdleUntil}
 use Rattle.region_body.specs.Placed.{ArePlacesInBounds, ArePlaced, CanAdvance, PlacedCells, WaitThrough}
-use Rattle.region_body.specs.Rows.{IsOf, origin_at, row_of, rows_of}
+use Rattle.region_body.specs.Rows.{IsOf, constants_at, row_of, rows_of}
 use Rattle.region_body.specs.Speeds.{at_speeds, slowed_place, speed_of}
 use Rattle.region_body.specs.Waiting.{waited}
 use Rattle.region_body.specs.declared.gate.GatePlace.{GatePlace}
 use Rattle.region_body.specs.declared.pause.Pause.{Pause}
-use Rattle.region_body.specs.declared.tie.Tie.{Tie}
+use Rattle.region_body.specs.declared.followed_connector.FollowedConnector.{FollowedConnector}
 use Rattle.region_body.proofs.Parting.{carried-is}
 use Rattle.region_body.proofs.AtSpeeds.{link_out-at_speeds}
 use Rattle.region_body.proofs.Renewed.{renewed-of, speeds-later}
 use Rattle.region_body.proofs.Stays.{length-waited, n-waited, place_at-waited, waited-same}
-use Rattle.region_body.proofs.Ties.{demands-kept, gates-kept}
+use Rattle.region_body.proofs.Gates.{demands-kept, gates-kept}
 use Rattle.region_body.proofs.Whole.{IsMoved, held-sum, length-rows_after, length-rows_of, ready, row-after, row_at-rows_after, row_at-rows_of, steps-moved}
 
 -- where nothing is carried nothing leaves a cell and nothing enters it
@@ -100,10 +100,10 @@ no_followed = record { place = 0; until = 0; course = record { up = no_cell; dow
 
 -- the place holds nothing, or the most of its link is that of step t
 limited-most : (net : Network) (cells connectors : List ℕ) (t until speeds_until : ℕ) (places : List Place) (speeds : List (ℕ × ℕ)) (links : List FollowedLink)
-    (ties : List Tie) (put : List (Option ℕ)) (p : ℕ) → AreFollowed (most_out net cells connectors) places links t →
-    AreIdle places speeds speeds_until links ties put until → t < until → p < length places →
+    (others : List FollowedConnector) (put : List (Option ℕ)) (p : ℕ) → AreFollowed (most_out net cells connectors) places links t →
+    AreIdle places speeds speeds_until links others put until → t < until → p < length places →
     ((place_at places p).n ≡ 0) ⊎ ((place_at places p).most ≡ most_out net cells connectors p t)
-limited-most net cells connectors t until speeds_until places speeds links ties put p followed idle before within = elim (followed.each p within) [
+limited-most net cells connectors t until speeds_until places speeds links others put p followed idle before within = elim (followed.each p within) [
   | inl constant ↦ inr (constant t (omega arith))
   | inr (m, has) ↦ elim (idle.changes m no_followed has.there) [
     | inl empty ↦ inl (ap (λ q. (place_at places q).n) (sym (has.its no_followed)) ∙ empty)
@@ -112,10 +112,10 @@ limited-most net cells connectors t until speeds_until places speeds links ties 
 ]
 
 limited-still : (net : Network) (cells connectors : List ℕ) (t until speeds_until : ℕ) (places : List Place) (speeds : List (ℕ × ℕ)) (links : List FollowedLink)
-    (ties : List Tie) (put : List (Option ℕ)) (p : ℕ) → AreFollowed (most_out net cells connectors) places links t →
-    AreIdle places speeds speeds_until links ties put until → t < until → p < length places →
+    (others : List FollowedConnector) (put : List (Option ℕ)) (p : ℕ) → AreFollowed (most_out net cells connectors) places links t →
+    AreIdle places speeds speeds_until links others put until → t < until → p < length places →
     link_out (at_speeds (limited net cells connectors t places) speeds) p ≡ 0
-limited-still net cells connectors t until speeds_until places speeds links ties put p followed idle before within =
+limited-still net cells connectors t until speeds_until places speeds links others put p followed idle before within =
     let place : Place = place_at places p in
     let now = limited net cells connectors t places in
     let speed : ℕ × ℕ = speed_of speeds p in
@@ -124,19 +124,19 @@ limited-still net cells connectors t until speeds_until places speeds links ties
     ∙ limited-next net cells connectors t places (p + 1) (slowed_place (place_at now p) speed)
     ∙ ap (λ one. carried (slowed_place one speed) (place_at places (p + 1))) (limited-at net cells connectors t places p within) in
     let still : carried (slowed_place place speed) (place_at places (p + 1)) ≡ 0 = sym (link_out-at_speeds places speeds p within) ∙ idle.still p within in
-    elim (limited-most net cells connectors t until speeds_until places speeds links ties put p followed idle before within) [
+    elim (limited-most net cells connectors t until speeds_until places speeds links others put p followed idle before within) [
       | inl none ↦ is ∙ omega (arith, none)
       | inr same ↦ is ∙ rw (← same) still
     ]
 
 -- the other connectors
 
-still-flow : (net : Network) (t : ℕ) (n : ℕ → ℕ) (cells halo : List ℕ) (ties : List Tie) (places : List Place) (put : List (Option ℕ)) (until k : ℕ) (tie : Tie) →
-    IsScene net t cells halo ties places put → IsSeen n cells halo places put → All (λ tie. tie.course.step ≤ t) ties → All (IsIdleUntil places put until) ties →
-    t < until → k < length ties → flow_of net t n (connector_at net.connectors (get_or ties k tie).connector) ≡ no_flow
-still-flow net t n cells halo ties places put until k tie scene seen come idle before there =
-    sym (carried-is net t n cells halo ties places put (get_or ties k tie) scene seen (scene.tied.tied k tie there))
-    ∙ idle k tie there t (come k tie there) before
+still-flow : (net : Network) (t : ℕ) (n : ℕ → ℕ) (cells halo : List ℕ) (others : List FollowedConnector) (places : List Place) (put : List (Option ℕ)) (until k : ℕ) (followed : FollowedConnector) →
+    IsScene net t cells halo others places put → IsSeen n cells halo places put → All (λ followed. followed.course.step ≤ t) others → All (IsIdleUntil places put until) others →
+    t < until → k < length others → flow_of net t n (connector_at net.connectors (get_or others k followed).number) ≡ no_flow
+still-flow net t n cells halo others places put until k followed scene seen come idle before there =
+    sym (carried-is net t n cells halo others places put (get_or others k followed) scene seen (scene.connected.each k followed there))
+    ∙ idle k followed there t (come k followed there) before
 
 none-out : (net : Network) (t i : ℕ) (n : ℕ → ℕ) (k : ℕ) → flow_of net t n (connector_at net.connectors k) ≡ no_flow → out_by net t n i k ≤ 0
 none-out net t i n k none =
@@ -162,29 +162,29 @@ pub still : (net : Network) (t : ℕ) (n : ℕ → ℕ) (cells halo connectors :
     ArePlaced net cells halo connectors t placed → ArePlacesInBounds net cells halo t placed put → IsSeen n cells halo placed.places put → WaitThrough t placed put →
     (p : ℕ) → p < length cells → (outflow net t n (slice_index cells p) ≡ 0) × (inflow net t n (slice_index cells p) ≡ 0)
 still net t n cells halo connectors placed put sound before has bounds seen wait =
-    let idle : AreIdle placed.places placed.speeds placed.speeds_until placed.links placed.ties put placed.pause.until =
-    subst (λ put. AreIdle placed.places placed.speeds placed.speeds_until placed.links placed.ties put placed.pause.until) wait.same (has.pause.idle t wait.paused) in
-    let scene : IsScene net t cells halo placed.ties placed.places put = record {
+    let idle : AreIdle placed.places placed.speeds placed.speeds_until placed.links placed.connectors put placed.pause.until =
+    subst (λ put. AreIdle placed.places placed.speeds placed.speeds_until placed.links placed.connectors put placed.pause.until) wait.same (has.pause.idle t wait.paused) in
+    let scene : IsScene net t cells halo placed.connectors placed.places put = record {
       sound = sound;
       before = before;
-      tied = has.tied;
+      connected = has.connected;
       place_each = has.one_each;
       put_each = bounds.put_each;
       own = λ p within. (ready net t n cells halo connectors placed put p sound before has bounds seen within).row.held;
       around = bounds.around;
     } in
-    let flow = λ (k : ℕ) (d : Tie) (there : k < length placed.ties).
-    still-flow net t n cells halo placed.ties placed.places put placed.pause.until k d scene seen has.come idle.tied wait.paused there in
-    let parts : ArePartsOf net t n cells placed.ties (λ p. 0) (λ p. 0) = record {
-      taken = λ p within. sym (sum_by-zero (λ tie. out_by net t n (slice_index cells p) tie.connector) placed.ties
-          (λ k d there. none-out net t (slice_index cells p) n (get_or placed.ties k d).connector (flow k d there)));
-      brought = λ p within. sym (sum_by-zero (λ tie. in_by net t n (slice_index cells p) tie.connector) placed.ties
-          (λ k d there. none-in net t (slice_index cells p) n (get_or placed.ties k d).connector (flow k d there)));
+    let flow = λ (k : ℕ) (d : FollowedConnector) (there : k < length placed.connectors).
+    still-flow net t n cells halo placed.connectors placed.places put placed.pause.until k d scene seen has.come idle.carry_nothing wait.paused there in
+    let parts : ArePartsOf net t n cells placed.connectors (λ p. 0) (λ p. 0) = record {
+      taken = λ p within. sym (sum_by-zero (λ followed. out_by net t n (slice_index cells p) followed.number) placed.connectors
+          (λ k d there. none-out net t (slice_index cells p) n (get_or placed.connectors k d).number (flow k d there)));
+      brought = λ p within. sym (sum_by-zero (λ followed. in_by net t n (slice_index cells p) followed.number) placed.connectors
+          (λ k d there. none-in net t (slice_index cells p) n (get_or placed.connectors k d).number (flow k d there)));
     } in
     let now : List Place = limited net cells connectors t placed.places in
     let places : List Place = at_speeds now placed.speeds in
     let none : (p : ℕ) → p < length cells → link_out places p ≡ 0 =
-    λ p within. limited-still net cells connectors t placed.pause.until placed.speeds_until placed.places placed.speeds placed.links placed.ties put p has.followed idle
+    λ p within. limited-still net cells connectors t placed.pause.until placed.speeds_until placed.places placed.speeds placed.links placed.connectors put p has.followed idle
     wait.paused (omega (arith, has.one_each)) in
     let moves : IsMoved net t n cells places (λ p. 0) (λ p. 0) =
     steps-moved net cells halo connectors t n placed places (λ p. 0) (λ p. 0) (λ p. 0) put sound before has bounds seen
@@ -211,12 +211,12 @@ waits-step place enters leaves none none_out =
 cell-waits : (net : Network) (t : ℕ) (n : ℕ → ℕ) (cells halo connectors : List ℕ) (placed : PlacedCells) (put : List (Option ℕ)) → IsNetwork net → t < net.steps →
     ArePlaced net cells halo connectors t placed → ArePlacesInBounds net cells halo t placed put → IsSeen n cells halo placed.places put → WaitThrough t placed put →
     (p : ℕ) → p < length cells →
-    (row_of (origin_at placed.origins p) (waited 1 (place_at placed.places p)) ≡ next_row net t n (slice_index cells p) (row_of (origin_at placed.origins p) (place_at placed.places p))) ×
-    IsOf net (slice_index cells p) (origin_at placed.origins p) (waited 1 (place_at placed.places p))
+    (row_of (constants_at placed.constants p) (waited 1 (place_at placed.places p)) ≡ next_row net t n (slice_index cells p) (row_of (constants_at placed.constants p) (place_at placed.places p))) ×
+    IsOf net (slice_index cells p) (constants_at placed.constants p) (waited 1 (place_at placed.places p))
 cell-waits net t n cells halo connectors placed put sound before has bounds seen wait p within =
     let place : Place = place_at placed.places p in
     let none = still net t n cells halo connectors placed put sound before has bounds seen wait p within in
-    row-after net t n (slice_index cells p) (origin_at placed.origins p) place place (waited 1 place) place.most 0 0
+    row-after net t n (slice_index cells p) (constants_at placed.constants p) place place (waited 1 place) place.most 0 0
     (ready net t n cells halo connectors placed put p sound before has bounds seen within) refl (waits-step place 0 0 refl refl) (sym none.1) (sym none.0)
 
 -- the cells as they are after a step of waiting
@@ -229,19 +229,19 @@ waiting placed gates before = record placed {
 }
 
 pub rows-waited : (net : Network) (cells : List ℕ) (t : ℕ) (placed : PlacedCells) (put : List (Option ℕ)) → IsNetwork net → t < net.steps → WaitThrough t placed put →
-    (can : CanAdvance net cells t placed put) → rows_of placed.origins (map (waited 1) placed.places) ≡ rows_after net t can.n cells (rows_of placed.origins placed.places)
+    (can : CanAdvance net cells t placed put) → rows_of placed.constants (map (waited 1) placed.places) ≡ rows_after net t can.n cells (rows_of placed.constants placed.places)
 rows-waited net cells t placed put sound before wait can =
-    let rows = rows_after net t can.n cells (rows_of placed.origins placed.places) in
-    ext_get_or empty_row (rows_of placed.origins (map (waited 1) placed.places)) rows
-    (length-rows_of placed.origins (map (waited 1) placed.places) ∙ can.laid.origin_each ∙ sym (length-rows_after net t can.n cells (rows_of placed.origins placed.places)))
+    let rows = rows_after net t can.n cells (rows_of placed.constants placed.places) in
+    ext_get_or empty_row (rows_of placed.constants (map (waited 1) placed.places)) rows
+    (length-rows_of placed.constants (map (waited 1) placed.places) ∙ can.laid.constants_each ∙ sym (length-rows_after net t can.n cells (rows_of placed.constants placed.places)))
     (λ p lt.
-    let inside : p < length placed.origins = omega (arith, length-rows_of placed.origins (map (waited 1) placed.places)) in
-    let within : p < length cells = omega (arith, can.laid.origin_each) in
-    row_at-rows_of placed.origins (map (waited 1) placed.places) p inside
-    ∙ ap (row_of (origin_at placed.origins p)) (place_at-waited 1 placed.places p (omega (arith, within, can.laid.one_each)))
+    let inside : p < length placed.constants = omega (arith, length-rows_of placed.constants (map (waited 1) placed.places)) in
+    let within : p < length cells = omega (arith, can.laid.constants_each) in
+    row_at-rows_of placed.constants (map (waited 1) placed.places) p inside
+    ∙ ap (row_of (constants_at placed.constants p)) (place_at-waited 1 placed.places p (omega (arith, within, can.laid.one_each)))
     ∙ (cell-waits net t can.n cells can.halo can.connectors placed put sound before can.laid can.bounds can.seen wait p within).0
-    ∙ sym (row_at-rows_after net t can.n cells (rows_of placed.origins placed.places) p within
-    ∙ ap (next_row net t can.n (slice_index cells p)) (row_at-rows_of placed.origins placed.places p inside)))
+    ∙ sym (row_at-rows_after net t can.n cells (rows_of placed.constants placed.places) p within
+    ∙ ap (next_row net t can.n (slice_index cells p)) (row_at-rows_of placed.constants placed.places p inside)))
 
 -- what moves by their connectors is as before
 
@@ -249,9 +249,9 @@ held-waited : (places : List Place) (put : List (Option ℕ)) (cell : CellRef) �
 held-waited places put (Own p) = n-waited 1 places p
 held-waited places put (Halo j) = refl
 
-three-waited : (tie : Tie) (places : List Place) (put : List (Option ℕ)) → three_held tie (held_in (map (waited 1) places) put) ≡ three_held tie (held_in places put)
-three-waited tie places put =
-    rw (held-waited places put (ref_at tie.cells 0), held-waited places put (ref_at tie.cells 1), held-waited places put (ref_at tie.cells 2)) refl
+three-waited : (followed : FollowedConnector) (places : List Place) (put : List (Option ℕ)) → three_held followed (held_in (map (waited 1) places) put) ≡ three_held followed (held_in places put)
+three-waited followed places put =
+    rw (held-waited places put (ref_at followed.cells 0), held-waited places put (ref_at followed.cells 1), held-waited places put (ref_at followed.cells 2)) refl
 
 next-waited : (places : List Place) (p : ℕ) (place : Place) → carried place (place_at (map (waited 1) places) p) ≡ carried place (place_at places p)
 next-waited places p place = elim (cases_lt p (length places)) [
@@ -268,17 +268,17 @@ out-waited places speeds p within =
     ∙ ap (λ one. carried (slowed_place one (speed_of speeds p)) (place_at places (p + 1))) (place_at-waited 1 places p within ∙ waited-same 1 (place_at places p))
     ∙ sym (link_out-at_speeds places speeds p within)
 
-idle-waited : (places : List Place) (speeds : List (ℕ × ℕ)) (speeds_until : ℕ) (links : List FollowedLink) (ties : List Tie) (put : List (Option ℕ)) (until : ℕ) →
-    AreIdle places speeds speeds_until links ties put until → AreIdle (map (waited 1) places) speeds speeds_until links ties put until
-idle-waited places speeds speeds_until links ties put until idle = record {
+idle-waited : (places : List Place) (speeds : List (ℕ × ℕ)) (speeds_until : ℕ) (links : List FollowedLink) (others : List FollowedConnector) (put : List (Option ℕ)) (until : ℕ) →
+    AreIdle places speeds speeds_until links others put until → AreIdle (map (waited 1) places) speeds speeds_until links others put until
+idle-waited places speeds speeds_until links others put until idle = record {
   still = λ p within. let here : p < length places = omega (arith, within, length-waited 1 places) in out-waited places speeds p here ∙ idle.still p here;
   stays = idle.stays;
   changes = λ k d within. elim (idle.changes k d within) [
     | inl empty ↦ inl (n-waited 1 places (get_or links k d).place ∙ empty)
     | inr later ↦ inr later
   ];
-  tied = λ k d within s from before.
-      ap (flow_at (get_or ties k d).course s) (three-waited (get_or ties k d) places put) ∙ idle.tied k d within s from before;
+  carry_nothing = λ k d within s from before.
+      ap (flow_at (get_or others k d).course s) (three-waited (get_or others k d) places put) ∙ idle.carry_nothing k d within s from before;
 }
 
 followed-waited : (most : ℕ → ℕ → ℕ) (places : List Place) (links : List FollowedLink) (t : ℕ) → AreFollowed most places links t →
@@ -305,13 +305,13 @@ placed-waited net cells t placed put gates before sound in_time wait kept long n
     record {
       around = has.around;
       known = has.known;
-      tied = has.tied;
+      connected = has.connected;
       numbers = has.numbers;
       one_each = length-waited 1 placed.places ∙ has.one_each;
-      origin_each = has.origin_each;
+      constants_each = has.constants_each;
       before_each = long ∙ has.before_each;
       own = λ p within.
-          subst (IsOf net (slice_index cells p) (origin_at placed.origins p)) (sym (place_at-waited 1 placed.places p (omega (arith, within, has.one_each))))
+          subst (IsOf net (slice_index cells p) (constants_at placed.constants p)) (sym (place_at-waited 1 placed.places p (omega (arith, within, has.one_each))))
           (cell-waits net t can.n cells can.halo can.connectors placed put sound in_time has can.bounds can.seen wait p within).1;
       space = λ p within. subst (λ space. IsSpaceOf space (room_at net.cells (slice_index cells p))) (sym (space_is p within)) (has.space p within);
       come = λ k d within. omega (arith, has.come k d within);
@@ -327,7 +327,7 @@ placed-waited net cells t placed put gates before sound in_time wait kept long n
       runs = has.runs;
       followed = followed-waited (most_out net cells can.connectors) placed.places placed.links t has.followed;
       pause = record {
-        idle = λ s within. idle-waited placed.places placed.speeds placed.speeds_until placed.links placed.ties placed.seen placed.pause.until (has.pause.idle s within);
+        idle = λ s within. idle-waited placed.places placed.speeds placed.speeds_until placed.links placed.connectors placed.seen placed.pause.until (has.pause.idle s within);
         owed = omega (arith, has.pause.owed);
         kept = λ some p within.
             let here : p < length placed.places = omega (arith, within, length-waited 1 placed.places) in
@@ -338,11 +338,11 @@ placed-waited net cells t placed put gates before sound in_time wait kept long n
 
 -- no sum of a place runs too large as it waits
 pub sums-fit : (net : Network) (cells : List ℕ) (t : ℕ) (placed : PlacedCells) (put : List (Option ℕ)) → IsNetwork net → t < net.steps →
-    CanAdvance net cells t placed put → (p : ℕ) → p < length placed.origins → (origin_at placed.origins p).is_exit ≡ false →
+    CanAdvance net cells t placed put → (p : ℕ) → p < length placed.constants → (constants_at placed.constants p).is_exit ≡ false →
     (place_at placed.places p).held + (place_at placed.places p).n < 2 ^ 64
 sums-fit net cells t placed put sound before can p inside other =
-    let within : p < length cells = omega (arith, can.laid.origin_each) in
-    held-sum net t can.n (slice_index cells p) (origin_at placed.origins p) (place_at placed.places p)
+    let within : p < length cells = omega (arith, can.laid.constants_each) in
+    held-sum net t can.n (slice_index cells p) (constants_at placed.constants p) (place_at placed.places p)
     (ready net t can.n cells can.halo can.connectors placed put p sound before can.laid can.bounds can.seen within) other
 
 -- cells that wake, with gates that were asked
@@ -355,10 +355,10 @@ pub placed-awake : (net : Network) (cells halo connectors : List ℕ) (t : ℕ) 
 placed-awake net cells halo connectors t placed gates has kept = record {
   around = has.around;
   known = has.known;
-  tied = has.tied;
+  connected = has.connected;
   numbers = has.numbers;
   one_each = has.one_each;
-  origin_each = has.origin_each;
+  constants_each = has.constants_each;
   before_each = has.before_each;
   own = has.own;
   space = has.space;
@@ -387,8 +387,8 @@ advance-awake net cells t placed gates put kept can = record {
 
 -- what a step says of them it says of the cells as they were
 pub rows-awake : (net : Network) (cells : List ℕ) (t : ℕ) (old mid new : PlacedCells) (gates : List GatePlace) (put : List (Option ℕ)) → mid ≡ awake old gates →
-    AreGatesKept t old.gates gates → ((can : CanAdvance net cells t mid put) → rows_of new.origins new.places ≡ rows_after net t can.n cells (rows_of mid.origins mid.places)) →
-    (can : CanAdvance net cells t old put) → rows_of new.origins new.places ≡ rows_after net t can.n cells (rows_of old.origins old.places)
+    AreGatesKept t old.gates gates → ((can : CanAdvance net cells t mid put) → rows_of new.constants new.places ≡ rows_after net t can.n cells (rows_of mid.constants mid.places)) →
+    (can : CanAdvance net cells t old put) → rows_of new.constants new.places ≡ rows_after net t can.n cells (rows_of old.constants old.places)
 unfolding advance-awake
 rows-awake net cells t old mid new gates put is kept =
     rw is (λ rows can. rows (advance-awake net cells t old gates put kept can))
@@ -403,15 +403,15 @@ places-awake net cells t old mid new gates put is kept =
 -- with another pause the cells are placed as before
 pub placed-paused : (net : Network) (cells halo connectors : List ℕ) (t : ℕ) (placed : PlacedCells) (pause : Pause) (seen : List (Option ℕ)) →
     ArePlaced net cells halo connectors t placed → pause.owed ≡ 0 → length seen ≡ length halo →
-    ((s : ℕ) → s < pause.until → AreIdle placed.places placed.speeds placed.speeds_until placed.links placed.ties seen pause.until) →
+    ((s : ℕ) → s < pause.until → AreIdle placed.places placed.speeds placed.speeds_until placed.links placed.connectors seen pause.until) →
     ArePlaced net cells halo connectors t (record placed { pause = pause; seen = seen })
 placed-paused net cells halo connectors t placed pause seen has none seen_each idle = record {
   around = has.around;
   known = has.known;
-  tied = has.tied;
+  connected = has.connected;
   numbers = has.numbers;
   one_each = has.one_each;
-  origin_each = has.origin_each;
+  constants_each = has.constants_each;
   before_each = has.before_each;
   own = has.own;
   space = has.space;

@@ -11,8 +11,8 @@ use Rattle.courses.specs.Courses.{value_at}
 use Rattle.region_body.specs.Places.{AreSound, place_at}
 use Rattle.region_body.specs.declared.place.Place.{Place}
 use Rattle.region_body.specs.Chains.{AreAround, is_joined, most_out}
-use Rattle.region_body.specs.Followed.{AreFollowed, IsThere}
-use Rattle.region_body.specs.declared.followed.FollowedLink.{FollowedLink}
+use Rattle.region_body.specs.FollowedLinks.{AreFollowed, IsLinkThere}
+use Rattle.region_body.specs.declared.followed_link.FollowedLink.{FollowedLink}
 use Rattle.region_body.specs.Placed.{ArePlaced, PlacedCells}
 use Rattle.region_body.specs.Speeds.{AreSpeedsInForce, AreSpeedsAsBefore, AreSpeedsOf, IsSpeedThere, at_speeds, cell_speed, is_listed, is_slow, slowed_place, speed_of}
 use Rattle.region_body.specs.declared.followed_speed.FollowedSpeed.{FollowedSpeed}
@@ -104,7 +104,7 @@ sending new = at_speeds new.places new.speeds
 -- what is told of it
 pub record IsRenewal (t : ℕ) (placed : PlacedCells) (new : Renewal) : Type 0 where
   pub long : length new.places ≡ length placed.places
-  pub there : All (IsThere (length placed.places) t) new.links
+  pub there : All (IsLinkThere (length placed.places) t) new.links
   pub most : (most : ℕ → ℕ → ℕ) → AreFollowed most placed.places placed.links t → (p : ℕ) → p < length placed.places →
       place_at new.places p ≡ record (place_at placed.places p) { most = most p t }
   pub followed : (most : ℕ → ℕ → ℕ) → AreFollowed most placed.places placed.links t → AreFollowed most new.places new.links t
@@ -120,7 +120,7 @@ pub record IsRenewal (t : ℕ) (placed : PlacedCells) (new : Renewal) : Type 0 w
 pub record IsFresh (net : Network) (cells connectors : List ℕ) (t : ℕ) (placed : PlacedCells) (new : Renewal) : Type 0 where
   pub renewed : AreRenewed net cells connectors t placed (sending new)
   pub kept : AreKept placed new.places
-  pub links_there : All (IsThere (length new.places) t) new.links
+  pub links_there : All (IsLinkThere (length new.places) t) new.links
   pub followed : AreFollowed (most_out net cells connectors) new.places new.links t
   pub speeds : AreSpeedsOf net cells new.courses new.speeds t new.until
   pub later : t < new.until

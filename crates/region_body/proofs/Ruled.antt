@@ -10,7 +10,7 @@ use Rattle.flow_model.specs.declared.carried.Flow.{Flow}
 use Rattle.region_body.specs.Carrying.{brought, brought_by, carried_of, taken, taken_by}
 use Rattle.region_body.specs.CellRefs.{parts_at, ref_at}
 use Rattle.region_body.specs.declared.cell_ref.CellRef.{CellRef}
-use Rattle.region_body.specs.declared.tie.Tie.{Tie}
+use Rattle.region_body.specs.declared.followed_connector.FollowedConnector.{FollowedConnector}
 
 -- of a link the third cell isn't asked
 link-third : (course : ConnectorValues) (t a b c third : ℕ) → course.rule ≡ Linking → flow_at course t (a ∷ b ∷ c ∷ []) ≡ flow_at course t (a ∷ b ∷ third ∷ [])
@@ -24,29 +24,29 @@ link-third course t a b c third is =
     same None limits second_space third_space = refl
     same (Some slowing) limits second_space third_space = refl
 
-pub link-moves : (t : ℕ) (held : CellRef → ℕ) (p : ℕ) (tie : Tie) (flow : Flow) (third : ℕ) → tie.course.rule ≡ Linking →
-    flow ≡ flow_at tie.course t (held (ref_at tie.cells 0) ∷ held (ref_at tie.cells 1) ∷ third ∷ []) →
-    (taken t held p tie ≡ parts_at (ref_at tie.cells 0) flow.out1 p) × (brought t held p tie ≡ parts_at (ref_at tie.cells 1) flow.in1 p)
+pub link-moves : (t : ℕ) (held : CellRef → ℕ) (p : ℕ) (connector : FollowedConnector) (flow : Flow) (third : ℕ) → connector.course.rule ≡ Linking →
+    flow ≡ flow_at connector.course t (held (ref_at connector.cells 0) ∷ held (ref_at connector.cells 1) ∷ third ∷ []) →
+    (taken t held p connector ≡ parts_at (ref_at connector.cells 0) flow.out1 p) × (brought t held p connector ≡ parts_at (ref_at connector.cells 1) flow.in1 p)
 unfolding taken brought
-link-moves t held p tie flow third rule_is flow_is =
-    let same : carried_of t tie held ≡ flow =
-    link-third tie.course t (held (ref_at tie.cells 0)) (held (ref_at tie.cells 1)) (held (ref_at tie.cells 2)) third rule_is ∙ sym flow_is in (
-      ap (λ rule. taken_by rule tie (carried_of t tie held) p) rule_is ∙ ap (λ one. taken_by Linking tie one p) same,
-      ap (λ rule. brought_by rule tie (carried_of t tie held) p) rule_is ∙ ap (λ one. brought_by Linking tie one p) same,
+link-moves t held p connector flow third rule_is flow_is =
+    let same : carried_of t connector held ≡ flow =
+    link-third connector.course t (held (ref_at connector.cells 0)) (held (ref_at connector.cells 1)) (held (ref_at connector.cells 2)) third rule_is ∙ sym flow_is in (
+      ap (λ rule. taken_by rule connector (carried_of t connector held) p) rule_is ∙ ap (λ one. taken_by Linking connector one p) same,
+      ap (λ rule. brought_by rule connector (carried_of t connector held) p) rule_is ∙ ap (λ one. brought_by Linking connector one p) same,
     )
 
-pub merge-moves : (t : ℕ) (held : CellRef → ℕ) (p : ℕ) (tie : Tie) (flow : Flow) → tie.course.rule ≡ Merging → flow ≡ carried_of t tie held →
-    (taken t held p tie ≡ parts_at (ref_at tie.cells 0) flow.out1 p + parts_at (ref_at tie.cells 1) flow.out2 p) × (brought t held p tie ≡ parts_at (ref_at tie.cells 2) flow.in1 p)
+pub merge-moves : (t : ℕ) (held : CellRef → ℕ) (p : ℕ) (connector : FollowedConnector) (flow : Flow) → connector.course.rule ≡ Merging → flow ≡ carried_of t connector held →
+    (taken t held p connector ≡ parts_at (ref_at connector.cells 0) flow.out1 p + parts_at (ref_at connector.cells 1) flow.out2 p) × (brought t held p connector ≡ parts_at (ref_at connector.cells 2) flow.in1 p)
 unfolding taken brought
-merge-moves t held p tie flow rule_is flow_is = (
-  ap (λ rule. taken_by rule tie (carried_of t tie held) p) rule_is ∙ ap (λ one. taken_by Merging tie one p) (sym flow_is),
-  ap (λ rule. brought_by rule tie (carried_of t tie held) p) rule_is ∙ ap (λ one. brought_by Merging tie one p) (sym flow_is),
+merge-moves t held p connector flow rule_is flow_is = (
+  ap (λ rule. taken_by rule connector (carried_of t connector held) p) rule_is ∙ ap (λ one. taken_by Merging connector one p) (sym flow_is),
+  ap (λ rule. brought_by rule connector (carried_of t connector held) p) rule_is ∙ ap (λ one. brought_by Merging connector one p) (sym flow_is),
 )
 
-pub diverge-moves : (t : ℕ) (held : CellRef → ℕ) (p : ℕ) (tie : Tie) (flow : Flow) → tie.course.rule ≡ Diverging → flow ≡ carried_of t tie held →
-    (taken t held p tie ≡ parts_at (ref_at tie.cells 0) flow.out1 p) × (brought t held p tie ≡ parts_at (ref_at tie.cells 1) flow.in1 p + parts_at (ref_at tie.cells 2) flow.in2 p)
+pub diverge-moves : (t : ℕ) (held : CellRef → ℕ) (p : ℕ) (connector : FollowedConnector) (flow : Flow) → connector.course.rule ≡ Diverging → flow ≡ carried_of t connector held →
+    (taken t held p connector ≡ parts_at (ref_at connector.cells 0) flow.out1 p) × (brought t held p connector ≡ parts_at (ref_at connector.cells 1) flow.in1 p + parts_at (ref_at connector.cells 2) flow.in2 p)
 unfolding taken brought
-diverge-moves t held p tie flow rule_is flow_is = (
-  ap (λ rule. taken_by rule tie (carried_of t tie held) p) rule_is ∙ ap (λ one. taken_by Diverging tie one p) (sym flow_is),
-  ap (λ rule. brought_by rule tie (carried_of t tie held) p) rule_is ∙ ap (λ one. brought_by Diverging tie one p) (sym flow_is),
+diverge-moves t held p connector flow rule_is flow_is = (
+  ap (λ rule. taken_by rule connector (carried_of t connector held) p) rule_is ∙ ap (λ one. taken_by Diverging connector one p) (sym flow_is),
+  ap (λ rule. brought_by rule connector (carried_of t connector held) p) rule_is ∙ ap (λ one. brought_by Diverging connector one p) (sym flow_is),
 )

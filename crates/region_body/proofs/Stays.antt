@@ -7,9 +7,9 @@ use Rattle.std.proofs.lemmas.List.{get_or-map, length-map, map-id}
 use Rattle.region_body.specs.Places.{AreSound, no_place, place_at}
 use Rattle.region_body.specs.declared.place.Place.{Place}
 use Rattle.region_body.proofs.Neighbours.{place_at-past}
-use Rattle.region_body.specs.Rows.{AreSettled, IsSettled, origin_at}
+use Rattle.region_body.specs.Rows.{AreSettled, IsSettled, constants_at}
 use Rattle.region_body.specs.Waiting.{waited}
-use Rattle.region_body.specs.declared.origin.Origin.{Origin}
+use Rattle.region_body.specs.declared.cell_constants.CellConstants.{CellConstants}
 
 -- one step more
 once : Place → Place
@@ -98,17 +98,17 @@ pub unowed : (owed : ℕ) (places now : List Place) → map (waited owed) places
 unowed owed places now is none = sym (waited-unowed owed places none) ∙ is
 
 -- settled places can be swept
-pub sound-settled : (origins : List Origin) (places : List Place) (before : List ℕ) → AreSettled origins places before → AreSound places
-sound-settled origins places before settled = record {
+pub sound-settled : (constants : List CellConstants) (places : List Place) (before : List ℕ) → AreSettled constants places before → AreSound places
+sound-settled constants places before settled = record {
   room = λ p within. (settled.each p (omega (arith, settled.one_each))).room;
   gone = λ p within. omega (arith, (settled.each p (omega (arith, settled.one_each))).fits);
 }
 
 -- places whose sums don't run too large stay settled as they wait
 
-place-waits : (origin : Origin) (place : Place) → IsSettled origin place → (origin.is_exit ≡ false → place.held + place.n < 2 ^ 64) → IsSettled origin (waited 1 place)
+place-waits : (constants : CellConstants) (place : Place) → IsSettled constants place → (constants.is_exit ≡ false → place.held + place.n < 2 ^ 64) → IsSettled constants (waited 1 place)
 unfolding waited
-place-waits origin place is fits = record {
+place-waits constants place is fits = record {
   began = is.began;
   sums = λ other.
       let whole : (place.held + place.n) % 2 ^ 64 ≡ place.held + place.n = mod-eq_of_lt (fits other) in
@@ -117,13 +117,13 @@ place-waits origin place is fits = record {
   room = is.room;
 }
 
-pub settled-waits : (origins : List Origin) (places : List Place) (before : List ℕ) → AreSettled origins places before →
-    ((p : ℕ) → p < length origins → (origin_at origins p).is_exit ≡ false → (place_at places p).held + (place_at places p).n < 2 ^ 64) →
-    AreSettled origins (map (waited 1) places) before
-settled-waits origins places before settled fit = record {
+pub settled-waits : (constants : List CellConstants) (places : List Place) (before : List ℕ) → AreSettled constants places before →
+    ((p : ℕ) → p < length constants → (constants_at constants p).is_exit ≡ false → (place_at places p).held + (place_at places p).n < 2 ^ 64) →
+    AreSettled constants (map (waited 1) places) before
+settled-waits constants places before settled fit = record {
   one_each = length-waited 1 places ∙ settled.one_each;
   before_each = settled.before_each;
   each = λ p within.
       rw (place_at-waited 1 places p (omega (arith, within, settled.one_each)))
-      (place-waits (origin_at origins p) (place_at places p) (settled.each p within) (fit p within));
+      (place-waits (constants_at constants p) (place_at places p) (settled.each p within) (fit p within));
 }

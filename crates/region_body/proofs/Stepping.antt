@@ -10,7 +10,7 @@ use Rattle.flow_model.proofs.Bounds.{IsChange}
 use Rattle.region_body.specs.Places.{moved}
 use Rattle.region_body.specs.declared.place.Place.{Place}
 use Rattle.region_body.specs.Rows.{IsOf, row_of}
-use Rattle.region_body.specs.declared.origin.Origin.{Origin}
+use Rattle.region_body.specs.declared.cell_constants.CellConstants.{CellConstants}
 
 row_same : (row : Row) {n come gone wait : ℕ} → row.n ≡ n → row.come ≡ come → row.gone ≡ gone → row.wait ≡ wait →
     row ≡ record { n = n; come = come; gone = gone; wait = wait }
@@ -24,24 +24,24 @@ row-road first n gone held enters leaves taken began sums fits =
     let whole : (held + n) % 2 ^ 64 ≡ held + n = mod-eq_of_lt fits in
     (omega arith, omega arith)
 
-pub row-stepped : (net : Network) (t i : ℕ) (origin : Origin) (place : Place) (enters leaves : ℕ) → IsOf net i origin place →
-    IsChange net t i place.n enters leaves → (origin.is_exit ≡ false → place.held + place.n < 2 ^ 64) →
-    row_of origin (moved place enters leaves) ≡ moved_row net i (row_of origin place) enters leaves
-row-stepped net t i origin place enters leaves is change fits = elim (cases_Bool origin.is_exit) [
+pub row-stepped : (net : Network) (t i : ℕ) (constants : CellConstants) (place : Place) (enters leaves : ℕ) → IsOf net i constants place →
+    IsChange net t i place.n enters leaves → (constants.is_exit ≡ false → place.held + place.n < 2 ^ 64) →
+    row_of constants (moved place enters leaves) ≡ moved_row net i (row_of constants place) enters leaves
+row-stepped net t i constants place enters leaves is change fits = elim (cases_Bool constants.is_exit) [
   | inl exit ↦
       let exit_at : is_exit_at net.cells i ≡ true = sym is.exit ∙ exit in
       let none = change.exit exit_at in
       rw (exit, exit_at) (row_same _ refl (omega arith) refl refl)
   | inr other ↦
       let other_at : is_exit_at net.cells i ≡ false = sym is.exit ∙ other in
-      let sums = row-road origin.first place.n place.gone place.held enters leaves change.held (is.began other) (is.sums other) (fits other) in
+      let sums = row-road constants.first place.n place.gone place.held enters leaves change.held (is.began other) (is.sums other) (fits other) in
       rw (other, other_at) (row_same _ refl sums.0 refl sums.1)
 ]
 
-pub stepped-is_of : (net : Network) (t i : ℕ) (origin : Origin) (place : Place) (enters leaves : ℕ) → IsOf net i origin place →
-    IsChange net t i place.n enters leaves → (origin.is_exit ≡ false → place.held + place.n < 2 ^ 64) →
-    IsOf net i origin (moved place enters leaves)
-stepped-is_of net t i origin place enters leaves is change fits = record {
+pub stepped-is_of : (net : Network) (t i : ℕ) (constants : CellConstants) (place : Place) (enters leaves : ℕ) → IsOf net i constants place →
+    IsChange net t i place.n enters leaves → (constants.is_exit ≡ false → place.held + place.n < 2 ^ 64) →
+    IsOf net i constants (moved place enters leaves)
+stepped-is_of net t i constants place enters leaves is change fits = record {
   first = is.first;
   exit = is.exit;
   began = λ other. omega (arith, is.began other, change.held);

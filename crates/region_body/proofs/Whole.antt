@@ -10,54 +10,54 @@ use Rattle.signal_plan.specs.Capacity.{capacity_at}
 use Rattle.signal_plan.specs.Demand.{demand_at}
 use Rattle.signal_plan.specs.Speeds.{arriving, has_speeds, speed_at}
 use Rattle.signal_plan.proofs.Sums.{sum_by-filter, sum_by_agree, sum_by_range_one}
-use Rattle.network_file.specs.Cells.{is_exit_at, is_gate_at, is_road}
-use Rattle.network_file.specs.declared.cell.Kind.{Kind}
-use Rattle.network_file.specs.declared.cell.Kind.TheVariants.{Road, Gate, Exit}
+use Rattle.network_file.specs.Cells.{is_exit_at, is_gate_at}
 use Rattle.network_file.specs.Network.{IsNetwork, Network}
 use Rattle.flow_model.specs.Bounds.{IsHeldInBounds, IsRowInBounds}
 use Rattle.flow_model.specs.Flows.{inflow, outflow}
-use Rattle.flow_model.specs.Limits.{room_at, room_of}
+use Rattle.flow_model.specs.Limits.{room_at}
 use Rattle.flow_model.specs.Rows.{empty_row, moved_row, next_row}
 use Rattle.flow_model.specs.State.{row_at, rows_after}
 use Rattle.flow_model.specs.declared.row.Row.{Row}
 use Rattle.flow_model.proofs.Bounds.{IsChange, IsSmall, changes, held-le, moved_row-in_bounds, small}
-use Rattle.flow_model.proofs.CellKinds.{cell_at}
-use Rattle.flow_model.proofs.CellLimits.{capacity_at-le, most_of}
+use Rattle.flow_model.proofs.CellLimits.{capacity_at-le}
 use Rattle.flow_model.proofs.Flows.{inflow-gate}
 use Rattle.region_body.specs.Places.{AreSound, link_in, link_out, moved, place_at}
-use Rattle.connector_flow.specs.Space.{HasSpace, IsSpaceOf, boundless}
+use Rattle.connector_flow.specs.Space.{HasSpace, IsSpaceOf}
+use Rattle.connector_flow.proofs.Spaces.{has-space}
 use Rattle.region_body.specs.declared.place.Place.{Place}
 use Rattle.region_body.proofs.LinkFlows.{held-fits}
 use Rattle.region_body.specs.Chains.{AreAround, most_out, odd_ones}
 use Rattle.region_body.specs.Placed.{ArePlacesInBounds, ArePlaced, CanAdvance, PlacedCells}
-use Rattle.region_body.specs.Followed.{AreFollowed}
-use Rattle.region_body.specs.declared.followed.FollowedLink.{FollowedLink}
+use Rattle.region_body.specs.FollowedLinks.{AreFollowed}
+use Rattle.region_body.specs.declared.followed_link.FollowedLink.{FollowedLink}
 use Rattle.region_cut.proofs.Ranges.{Contains-filter_range}
 use Rattle.region_body.specs.Moves.{ArePartsOf, IsScene, IsSeen, demand_for, in_by, out_by}
 use Rattle.region_body.specs.Speeds.{CanSweep, is_slow}
-use Rattle.region_body.specs.Rows.{AreSettled, IsOf, origin_at, row_of, rows_of}
-use Rattle.region_body.specs.declared.origin.Origin.{Origin}
-use Rattle.region_body.specs.declared.tie.Tie.{Tie}
+use Rattle.region_body.specs.Rows.{AreSettled, IsOf, constants_at, row_of, rows_of}
+use Rattle.region_body.specs.declared.cell_constants.CellConstants.{CellConstants}
+use Rattle.region_body.specs.declared.followed_connector.FollowedConnector.{FollowedConnector}
 use Rattle.region_body.proofs.Flowing.{HasPlaces, in-gate, in-total, odd_sum, out-total}
 use Rattle.region_body.proofs.Renewed.{AreKept, AreRenewed, IsFresh, Renewal, sending, speed-free, speed-there, speeds-later}
 use Rattle.region_body.proofs.Stepping.{row-stepped, stepped-is_of}
-use Rattle.region_body.proofs.Ties.{come-followed, demands-asked, demands-into, gates-asked, numbers-followed, sum_by-map, tied-followed}
-use Rattle.region_body.specs.Carrying.{AreTiesFollowed}
+use Rattle.region_body.proofs.FollowedConnectors.{come-followed, connected-followed, numbers-followed}
+use Rattle.region_body.proofs.Gates.{demands-asked, demands-into, gates-asked}
+use Rattle.region_body.proofs.SameMaps.{sum_by-map}
+use Rattle.region_body.specs.Carrying.{AreConnectorsFollowed}
 use Rattle.region_body.specs.Pausing.{IsPauseOf}
 use Rattle.region_body.specs.declared.pause.Pause.{Pause}
 use Rattle.region_body.specs.Gates.{AreAsked, demand_into}
 use Rattle.region_body.specs.declared.gate.GatePlace.{GatePlace}
 
 -- the rows of places, one by one
-pub row_at-rows_of : (origins : List Origin) (places : List Place) (p : ℕ) → p < length origins →
-    row_at (rows_of origins places) p ≡ row_of (origin_at origins p) (place_at places p)
+pub row_at-rows_of : (constants : List CellConstants) (places : List Place) (p : ℕ) → p < length constants →
+    row_at (rows_of constants places) p ≡ row_of (constants_at constants p) (place_at places p)
 unfolding rows_of
-row_at-rows_of origins places p within =
-    get_or-map-range_with_len (λ p. row_of (origin_at origins p) (place_at places p)) 0 (length origins) p p empty_row within (zero-add p)
+row_at-rows_of constants places p within =
+    get_or-map-range_with_len (λ p. row_of (constants_at constants p) (place_at places p)) 0 (length constants) p p empty_row within (zero-add p)
 
-pub length-rows_of : (origins : List Origin) (places : List Place) → length (rows_of origins places) ≡ length origins
+pub length-rows_of : (constants : List CellConstants) (places : List Place) → length (rows_of constants places) ≡ length constants
 unfolding rows_of
-length-rows_of origins places = length-map-range_with_len (λ p. row_of (origin_at origins p) (place_at places p)) 0 (length origins)
+length-rows_of constants places = length-map-range_with_len (λ p. row_of (constants_at constants p) (place_at places p)) 0 (length constants)
 
 -- the demand of the gate at place p, and none where it is no gate's
 demand-sum : (net : Network) (t : ℕ) (cells : List ℕ) (p : ℕ) → p < length cells →
@@ -90,22 +90,22 @@ pub record IsMoved (net : Network) (t : ℕ) (n : ℕ → ℕ) (cells : List ℕ
   pub leaves : (p : ℕ) → p < length cells → link_out places p + outs p ≡ outflow net t n (slice_index cells p)
   pub enters : (p : ℕ) → p < length cells → link_in places p + ins p ≡ inflow net t n (slice_index cells p)
 
-pub moves-of : (net : Network) (t : ℕ) (n : ℕ → ℕ) (cells connectors : List ℕ) (ties : List Tie) (places : List Place) (outs carried ins : ℕ → ℕ) →
+pub moves-of : (net : Network) (t : ℕ) (n : ℕ → ℕ) (cells connectors : List ℕ) (others : List FollowedConnector) (places : List Place) (outs carried ins : ℕ → ℕ) →
     IsNetwork net → AreAround net cells connectors → HasPlaces net t n cells connectors places →
-    map (λ tie. tie.connector) ties ≡ odd_ones net cells connectors → ArePartsOf net t n cells ties outs carried →
+    map (λ followed. followed.number) others ≡ odd_ones net cells connectors → ArePartsOf net t n cells others outs carried →
     ((p : ℕ) → ins p ≡ carried p +
     sum_by (demand_for net.plan t cells p) (filter (λ q. is_gate_at net.cells (slice_index cells q)) (range_with_len 0 (length cells)))) →
     IsMoved net t n cells places outs ins
-moves-of net t n cells connectors ties places outs carried ins sound around has numbers parts demands = record {
+moves-of net t n cells connectors others places outs carried ins sound around has numbers parts demands = record {
   leaves = λ p within.
       let i : ℕ = slice_index cells p in
       let sum : outs p ≡ odd_sum net cells connectors (out_by net t n i) =
-      parts.taken p within ∙ sum_by-map (out_by net t n i) (λ tie. tie.connector) ties ∙ ap (sum_by (out_by net t n i)) numbers in
+      parts.taken p within ∙ sum_by-map (out_by net t n i) (λ followed. followed.number) others ∙ ap (sum_by (out_by net t n i)) numbers in
       ap (λ x. link_out places p + x) sum ∙ out-total net t n cells connectors places p sound around has within;
   enters = λ p within.
       let i : ℕ = slice_index cells p in
       let sum : carried p ≡ odd_sum net cells connectors (in_by net t n i) =
-      parts.brought p within ∙ sum_by-map (in_by net t n i) (λ tie. tie.connector) ties ∙ ap (sum_by (in_by net t n i)) numbers in
+      parts.brought p within ∙ sum_by-map (in_by net t n i) (λ followed. followed.number) others ∙ ap (sum_by (in_by net t n i)) numbers in
       let demand = demand-sum net t cells p within in
       let all = demands p in
       elim (cases_Bool (is_gate_at net.cells i)) [
@@ -125,62 +125,50 @@ moves-of net t n cells connectors ties places outs carried ins sound around has 
       ];
 }
 
--- a cell has space for what it holds and a step's capacity
-pub has-space : (net : Network) (t i n q : ℕ) → i < length net.cells → IsHeldInBounds net t i n → n + q ≤ boundless → HasSpace n q (room_at net.cells i)
-has-space net t i n q has bounds few =
-    let here = cell_at net.cells i has in
-    let room = rw here.1 at bounds.road in
-    rw here.1 (of_kind here.0.kind n q room few)
-  where
-    of_kind : (kind : Kind) (n q : ℕ) → (is_road kind ≡ true → n ≤ most_of kind) → n + q ≤ boundless → HasSpace n q (room_of kind)
-    of_kind (Road room num den) n q road few = road refl
-    of_kind Gate n q road few = few
-    of_kind Exit n q road few = few
-
 -- what holds of one cell as a step begins
-pub record IsReady (net : Network) (t : ℕ) (n : ℕ → ℕ) (i : ℕ) (origin : Origin) (place : Place) : Type 0 where
+pub record IsReady (net : Network) (t : ℕ) (n : ℕ → ℕ) (i : ℕ) (constants : CellConstants) (place : Place) : Type 0 where
   pub there : i < length net.cells
   pub held : n i ≡ place.n
-  pub is_of : IsOf net i origin place
-  pub row : IsRowInBounds net t i (row_of origin place)
-  pub small : IsSmall (row_of origin place)
+  pub is_of : IsOf net i constants place
+  pub row : IsRowInBounds net t i (row_of constants place)
+  pub small : IsSmall (row_of constants place)
   pub change : IsChange net t i place.n (inflow net t n i) (outflow net t n i)
-  pub next : IsRowInBounds net (t + 1) i (moved_row net i (row_of origin place) (inflow net t n i) (outflow net t n i))
-  pub after : IsSmall (moved_row net i (row_of origin place) (inflow net t n i) (outflow net t n i))
+  pub next : IsRowInBounds net (t + 1) i (moved_row net i (row_of constants place) (inflow net t n i) (outflow net t n i))
+  pub after : IsSmall (moved_row net i (row_of constants place) (inflow net t n i) (outflow net t n i))
 
 pub ready : (net : Network) (t : ℕ) (n : ℕ → ℕ) (cells halo connectors : List ℕ) (placed : PlacedCells) (put : List (Option ℕ)) (p : ℕ) →
     IsNetwork net → t < net.steps → ArePlaced net cells halo connectors t placed → ArePlacesInBounds net cells halo t placed put →
     IsSeen n cells halo placed.places put → p < length cells →
-    IsReady net t n (slice_index cells p) (origin_at placed.origins p) (place_at placed.places p)
+    IsReady net t n (slice_index cells p) (constants_at placed.constants p) (place_at placed.places p)
 ready net t n cells halo connectors placed put p sound before has bounds seen within =
     let i : ℕ = slice_index cells p in
-    let origin : Origin = origin_at placed.origins p in
+    let constants : CellConstants = constants_at placed.constants p in
     let place : Place = place_at placed.places p in
     let there : i < length net.cells = has.around.there p 0 within in
     let held : n i ≡ place.n = seen.own p within in
-    let row : IsRowInBounds net t i (row_of origin place) =
-    subst (IsRowInBounds net t i) (row_at-rows_of placed.origins placed.places p (omega (arith, has.origin_each))) (bounds.own p within) in
+    let row : IsRowInBounds net t i (row_of constants place) =
+    subst (IsRowInBounds net t i) (row_at-rows_of placed.constants placed.places p (omega (arith, has.constants_each))) (bounds.own p within) in
     let change : IsChange net t i place.n (inflow net t n i) (outflow net t n i) =
     subst (λ x. IsChange net t i x (inflow net t n i) (outflow net t n i)) held
     (changes net t i n (inflow net t n i) (outflow net t n i) sound there (λ gate. inflow-gate net t i n gate) (omega arith) (omega arith)) in
-    let next : IsRowInBounds net (t + 1) i (moved_row net i (row_of origin place) (inflow net t n i) (outflow net t n i)) =
-    moved_row-in_bounds net t i (row_of origin place) (inflow net t n i) (outflow net t n i) sound before there row change in
+    let next : IsRowInBounds net (t + 1) i (moved_row net i (row_of constants place) (inflow net t n i) (outflow net t n i)) =
+    moved_row-in_bounds net t i (row_of constants place) (inflow net t n i) (outflow net t n i) sound before there row change in
     record {
       there = there;
       held = held;
       is_of = has.own p within;
       row = row;
-      small = small net t i (row_of origin place) sound (omega (arith, before)) there row;
+      small = small net t i (row_of constants place) sound (omega (arith, before)) there row;
       change = change;
       next = next;
-      after = small net (t + 1) i (moved_row net i (row_of origin place) (inflow net t n i) (outflow net t n i)) sound (omega (arith, before)) there next;
+      after = small net (t + 1) i (moved_row net i (row_of constants place) (inflow net t n i) (outflow net t n i)) sound (omega (arith, before)) there next;
     }
 
 -- the sum of what a road or a gate held fits
-pub held-sum : (net : Network) (t : ℕ) (n : ℕ → ℕ) (i : ℕ) (origin : Origin) (place : Place) → IsReady net t n i origin place →
-    origin.is_exit ≡ false → place.held + place.n < 2 ^ 64
-held-sum net t n i origin place is other =
-    let wait : (if origin.is_exit then 0 else place.held - place.gone) ≡ place.held - place.gone =
+pub held-sum : (net : Network) (t : ℕ) (n : ℕ → ℕ) (i : ℕ) (constants : CellConstants) (place : Place) → IsReady net t n i constants place →
+    constants.is_exit ≡ false → place.held + place.n < 2 ^ 64
+held-sum net t n i constants place is other =
+    let wait : (if constants.is_exit then 0 else place.held - place.gone) ≡ place.held - place.gone =
     ap (λ b. if b then 0 else place.held - place.gone) other in
     let sum = is.small.wait in
     let gone = is.small.gone in
@@ -203,10 +191,9 @@ has-places net t n cells halo connectors placed places put sound before has boun
       fits = λ p within.
           let i : ℕ = slice_index cells p in
           let is = ready net t n cells halo connectors placed put p sound before has bounds seen within in
-          let few = is.small.n in
           let capacity = capacity_at-le net t i sound is.there in
           subst (λ x. HasSpace x (capacity_at net.plan i t) (room_at net.cells i)) (sym (ap (λ place. place.n) (each p within)))
-          (has-space net t i (place_at placed.places p).n (capacity_at net.plan i t) is.there is.row.held (omega arith));
+          (has-space net t i (place_at placed.places p).n (capacity_at net.plan i t) sound (omega (arith, before)) is.there is.row.held capacity);
       sends = λ p within.
           ap (min (place_at places p).most) (ap (λ place. place.n) (each p within)) ∙ renewed.sends p (omega (arith, has.one_each))
           ∙ ap (λ x. min (most_out net cells connectors p t) (arriving (speed_at net.plan (slice_index cells p) t) x)) (sym (seen.own p within));
@@ -299,15 +286,15 @@ can_step net t n cells halo connectors placed places sends put outs ins sound be
     }
 
 -- and come to the rows of the cells' step
-pub row-after : (net : Network) (t : ℕ) (n : ℕ → ℕ) (i : ℕ) (origin : Origin) (place fresh after : Place) (most enters leaves : ℕ) →
-    IsReady net t n i origin place → fresh ≡ record place { most = most } → after ≡ moved fresh enters leaves →
+pub row-after : (net : Network) (t : ℕ) (n : ℕ → ℕ) (i : ℕ) (constants : CellConstants) (place fresh after : Place) (most enters leaves : ℕ) →
+    IsReady net t n i constants place → fresh ≡ record place { most = most } → after ≡ moved fresh enters leaves →
     enters ≡ inflow net t n i → leaves ≡ outflow net t n i →
-    (row_of origin after ≡ next_row net t n i (row_of origin place)) × IsOf net i origin after
+    (row_of constants after ≡ next_row net t n i (row_of constants place)) × IsOf net i constants after
 unfolding next_row
-row-after net t n i origin place fresh after most enters leaves is fresh_is after_is came went =
-    let fits = held-sum net t n i origin place is in
-    let row = row-stepped net t i origin place (inflow net t n i) (outflow net t n i) is.is_of is.change fits in
-    let of_cell = stepped-is_of net t i origin place (inflow net t n i) (outflow net t n i) is.is_of is.change fits in
+row-after net t n i constants place fresh after most enters leaves is fresh_is after_is came went =
+    let fits = held-sum net t n i constants place is in
+    let row = row-stepped net t i constants place (inflow net t n i) (outflow net t n i) is.is_of is.change fits in
+    let of_cell = stepped-is_of net t i constants place (inflow net t n i) (outflow net t n i) is.is_of is.change fits in
     rw (after_is, fresh_is, came, went) (row, record { first = of_cell.first; exit = of_cell.exit; began = of_cell.began; sums = of_cell.sums })
 
 pub length-rows_after : (net : Network) (t : ℕ) (n : ℕ → ℕ) (cells : List ℕ) (rows : List Row) → length (rows_after net t n cells rows) ≡ length cells
@@ -320,9 +307,9 @@ unfolding rows_after
 row_at-rows_after net t n cells rows p within =
     get_or-map-range_with_len (λ p. next_row net t n (slice_index cells p) (row_at rows p)) 0 (length cells) p p empty_row within (zero-add p)
 
--- what leaves and enters in the step: what the ties carry, and what the gates demand besides
+-- what leaves and enters in the step: what the other connectors carry, and what the gates demand besides
 pub record AreBrought (net : Network) (cells : List ℕ) (t : ℕ) (n : ℕ → ℕ) (placed : PlacedCells) (outs carried ins : ℕ → ℕ) : Type 0 where
-  pub parts : ArePartsOf net t n cells placed.ties outs carried
+  pub parts : ArePartsOf net t n cells placed.connectors outs carried
   pub demands : (p : ℕ) → ins p ≡ carried p + sum_by (demand_into t p) placed.gates
 
 -- the parts of a step, one after the other
@@ -347,11 +334,11 @@ seen-fresh net t n cells halo connectors placed fresh put has seen renewed = rec
 pub scene-fresh : (net : Network) (t : ℕ) (n : ℕ → ℕ) (cells halo connectors : List ℕ) (placed : PlacedCells) (fresh : List Place) (put : List (Option ℕ)) →
     IsNetwork net → t < net.steps → ArePlaced net cells halo connectors t placed → ArePlacesInBounds net cells halo t placed put →
     IsSeen n cells halo placed.places put → AreKept placed fresh →
-    IsScene net t cells halo placed.ties fresh put
+    IsScene net t cells halo placed.connectors fresh put
 scene-fresh net t n cells halo connectors placed fresh put sound before has bounds seen renewed = record {
   sound = sound;
   before = before;
-  tied = has.tied;
+  connected = has.connected;
   place_each = renewed.long ∙ has.one_each;
   put_each = bounds.put_each;
   own = λ p within.
@@ -361,12 +348,12 @@ scene-fresh net t n cells halo connectors placed fresh put sound before has boun
 }
 
 -- so it is with the connectors once they are followed
-pub scene-followed : (net : Network) (t : ℕ) (cells halo : List ℕ) (old new : List Tie) (places : List Place) (put : List (Option ℕ)) →
-    IsScene net t cells halo old places put → AreTiesFollowed t old new → IsScene net t cells halo new places put
+pub scene-followed : (net : Network) (t : ℕ) (cells halo : List ℕ) (old new : List FollowedConnector) (places : List Place) (put : List (Option ℕ)) →
+    IsScene net t cells halo old places put → AreConnectorsFollowed t old new → IsScene net t cells halo new places put
 scene-followed net t cells halo old new places put scene followed = record {
   sound = scene.sound;
   before = scene.before;
-  tied = tied-followed net cells halo t old new scene.tied followed;
+  connected = connected-followed net cells halo t old new scene.connected followed;
   place_each = scene.place_each;
   put_each = scene.put_each;
   own = scene.own;
@@ -374,11 +361,11 @@ scene-followed net t cells halo old new places put scene followed = record {
 }
 
 -- and what they take and bring is that of the connectors as they were
-pub parts-followed : (net : Network) (t : ℕ) (n : ℕ → ℕ) (cells : List ℕ) (old new : List Tie) (outs ins : ℕ → ℕ) → AreTiesFollowed t old new →
+pub parts-followed : (net : Network) (t : ℕ) (n : ℕ → ℕ) (cells : List ℕ) (old new : List FollowedConnector) (outs ins : ℕ → ℕ) → AreConnectorsFollowed t old new →
     ArePartsOf net t n cells new outs ins → ArePartsOf net t n cells old outs ins
 parts-followed net t n cells old new outs ins followed parts =
-    let same : (f : ℕ → ℕ) → sum_by (λ tie. f tie.connector) new ≡ sum_by (λ tie. f tie.connector) old =
-    λ f. sum_by-map f (λ (tie : Tie). tie.connector) new ∙ ap (sum_by f) (numbers-followed t old new followed) ∙ sym (sum_by-map f (λ (tie : Tie). tie.connector) old) in
+    let same : (f : ℕ → ℕ) → sum_by (λ followed. f followed.number) new ≡ sum_by (λ followed. f followed.number) old =
+    λ f. sum_by-map f (λ (followed : FollowedConnector). followed.number) new ∙ ap (sum_by f) (numbers-followed t old new followed) ∙ sym (sum_by-map f (λ (followed : FollowedConnector). followed.number) old) in
     record {
       taken = λ p within. parts.taken p within ∙ same (out_by net t n (slice_index cells p));
       brought = λ p within. parts.brought p within ∙ same (in_by net t n (slice_index cells p));
@@ -398,11 +385,11 @@ pub steps-moved : (net : Network) (cells halo connectors : List ℕ) (t : ℕ) (
     (outs carried ins : ℕ → ℕ) (put : List (Option ℕ)) →
     IsNetwork net → t < net.steps → ArePlaced net cells halo connectors t placed → ArePlacesInBounds net cells halo t placed put →
     IsSeen n cells halo placed.places put → AreRenewed net cells connectors t placed fresh →
-    ArePartsOf net t n cells placed.ties outs carried →
+    ArePartsOf net t n cells placed.connectors outs carried →
     ((p : ℕ) → ins p ≡ carried p + sum_by (demand_into t p) placed.gates) →
     IsMoved net t n cells fresh outs ins
 steps-moved net cells halo connectors t n placed fresh outs carried ins put sound before has bounds seen renewed parts demands =
-    moves-of net t n cells connectors placed.ties fresh outs carried ins sound has.around
+    moves-of net t n cells connectors placed.connectors fresh outs carried ins sound has.around
     (has-places net t n cells halo connectors placed fresh put sound before has bounds seen renewed) has.numbers parts
     (λ p.
     demands p
@@ -412,14 +399,14 @@ steps-moved net cells halo connectors t n placed fresh outs carried ins put soun
 pub cell-after : (net : Network) (cells halo connectors : List ℕ) (t : ℕ) (n : ℕ → ℕ) (placed : PlacedCells) (new : Renewal) (outs carried ins : ℕ → ℕ) (after : List Place) (put : List (Option ℕ)) (p : ℕ) →
     IsNetwork net → t < net.steps → ArePlaced net cells halo connectors t placed → ArePlacesInBounds net cells halo t placed put →
     IsSeen n cells halo placed.places put → AreSteps net cells halo connectors t n placed new outs carried ins after → p < length cells →
-    (row_of (origin_at placed.origins p) (place_at after p) ≡
-    next_row net t n (slice_index cells p) (row_of (origin_at placed.origins p) (place_at placed.places p))) ×
-    IsOf net (slice_index cells p) (origin_at placed.origins p) (place_at after p)
+    (row_of (constants_at placed.constants p) (place_at after p) ≡
+    next_row net t n (slice_index cells p) (row_of (constants_at placed.constants p) (place_at placed.places p))) ×
+    IsOf net (slice_index cells p) (constants_at placed.constants p) (place_at after p)
 cell-after net cells halo connectors t n placed new outs carried ins after put p sound before has bounds seen steps within =
     let here : p < length placed.places = omega (arith, has.one_each) in
     let there : p < length new.places = omega (arith, steps.now.kept.long) in
     let moves = steps-moved net cells halo connectors t n placed (sending new) outs carried ins put sound before has bounds seen steps.now.renewed steps.brought.parts steps.brought.demands in
-    row-after net t n (slice_index cells p) (origin_at placed.origins p) (place_at placed.places p) (place_at new.places p) (place_at after p)
+    row-after net t n (slice_index cells p) (constants_at placed.constants p) (place_at placed.places p) (place_at new.places p) (place_at after p)
     (place_at new.places p).most (link_in (sending new) p + ins p) (link_out (sending new) p + outs p)
     (ready net t n cells halo connectors placed put p sound before has bounds seen within) (steps.now.kept.only_most p here) (steps.stepped_each p there)
     (moves.enters p within) (moves.leaves p within)
@@ -428,17 +415,17 @@ cell-after net cells halo connectors t n placed new outs carried ins after put p
 pub rows-after : (net : Network) (cells halo connectors : List ℕ) (t : ℕ) (n : ℕ → ℕ) (placed : PlacedCells) (new : Renewal) (outs carried ins : ℕ → ℕ) (after : List Place) (put : List (Option ℕ)) →
     IsNetwork net → t < net.steps → ArePlaced net cells halo connectors t placed → ArePlacesInBounds net cells halo t placed put →
     IsSeen n cells halo placed.places put → AreSteps net cells halo connectors t n placed new outs carried ins after →
-    rows_of placed.origins after ≡ rows_after net t n cells (rows_of placed.origins placed.places)
+    rows_of placed.constants after ≡ rows_after net t n cells (rows_of placed.constants placed.places)
 rows-after net cells halo connectors t n placed new outs carried ins after put sound before has bounds seen steps =
-    ext_get_or empty_row (rows_of placed.origins after) (rows_after net t n cells (rows_of placed.origins placed.places))
-    (length-rows_of placed.origins after ∙ has.origin_each ∙ sym (length-rows_after net t n cells (rows_of placed.origins placed.places)))
+    ext_get_or empty_row (rows_of placed.constants after) (rows_after net t n cells (rows_of placed.constants placed.places))
+    (length-rows_of placed.constants after ∙ has.constants_each ∙ sym (length-rows_after net t n cells (rows_of placed.constants placed.places)))
     (λ p lt.
-    let inside : p < length placed.origins = omega (arith, length-rows_of placed.origins after) in
-    let within : p < length cells = omega (arith, has.origin_each) in
-    row_at-rows_of placed.origins after p inside
+    let inside : p < length placed.constants = omega (arith, length-rows_of placed.constants after) in
+    let within : p < length cells = omega (arith, has.constants_each) in
+    row_at-rows_of placed.constants after p inside
     ∙ (cell-after net cells halo connectors t n placed new outs carried ins after put p sound before has bounds seen steps within).0
-    ∙ sym (row_at-rows_after net t n cells (rows_of placed.origins placed.places) p within
-    ∙ ap (next_row net t n (slice_index cells p)) (row_at-rows_of placed.origins placed.places p inside)))
+    ∙ sym (row_at-rows_after net t n cells (rows_of placed.constants placed.places) p within
+    ∙ ap (next_row net t n (slice_index cells p)) (row_at-rows_of placed.constants placed.places p inside)))
 
 -- the links follow on
 
@@ -462,37 +449,37 @@ follows-later most fresh after links t long same followed = record {
       ];
 }
 
-pub placed-after : (net : Network) (cells halo connectors : List ℕ) (t : ℕ) (n : ℕ → ℕ) (placed : PlacedCells) (new : Renewal) (outs carried ins : ℕ → ℕ) (after : List Place) (before_list : List ℕ) (ties : List Tie) (until : ℕ) (gates : List GatePlace) (pause : Pause) (seen_list : List (Option ℕ)) (put : List (Option ℕ)) →
+pub placed-after : (net : Network) (cells halo connectors : List ℕ) (t : ℕ) (n : ℕ → ℕ) (placed : PlacedCells) (new : Renewal) (outs carried ins : ℕ → ℕ) (after : List Place) (before_list : List ℕ) (others : List FollowedConnector) (until : ℕ) (gates : List GatePlace) (pause : Pause) (seen_list : List (Option ℕ)) (put : List (Option ℕ)) →
     IsNetwork net → t < net.steps → ArePlaced net cells halo connectors t placed → ArePlacesInBounds net cells halo t placed put →
     IsSeen n cells halo placed.places put → AreSteps net cells halo connectors t n placed new outs carried ins after →
-    length before_list ≡ length placed.before → AreTiesFollowed t placed.ties ties → All (λ tie. until ≤ tie.course.until) ties → AreAsked t placed.gates gates → IsPauseOf after before_list new.speeds new.until new.links ties seen_list (t + 1) pause → length seen_list ≡ length halo →
+    length before_list ≡ length placed.before → AreConnectorsFollowed t placed.connectors others → All (λ followed. until ≤ followed.course.until) others → AreAsked t placed.gates gates → IsPauseOf after before_list new.speeds new.until new.links others seen_list (t + 1) pause → length seen_list ≡ length halo →
     ArePlaced net cells halo connectors (t + 1) (record {
       places = after;
-      origins = placed.origins;
+      constants = placed.constants;
       before = before_list;
       speeds = new.speeds;
       runs = placed.runs;
       speed_courses = new.courses;
       speeds_until = new.until;
       links = new.links;
-      ties = ties;
-      ties_until = until;
+      connectors = others;
+      connectors_until = until;
       gates = gates;
       pause = pause;
       seen = seen_list;
     })
-placed-after net cells halo connectors t n placed new outs carried ins after before_list ties until gates pause seen_list put sound before has bounds seen steps long
-    ties_are unchanged gates_are pausing seen_each =
+placed-after net cells halo connectors t n placed new outs carried ins after before_list others until gates pause seen_list put sound before has bounds seen steps long
+    others_are unchanged gates_are pausing seen_each =
     let same : length after ≡ length cells = steps.long_after ∙ steps.now.kept.long ∙ has.one_each in
-    let ties_long = ties_are.long in
+    let others_long = others_are.long in
     let gates_long = gates_are.long in
     record {
       around = has.around;
       known = has.known;
-      tied = tied-followed net cells halo t placed.ties ties has.tied ties_are;
-      numbers = numbers-followed t placed.ties ties ties_are ∙ has.numbers;
+      connected = connected-followed net cells halo t placed.connectors others has.connected others_are;
+      numbers = numbers-followed t placed.connectors others others_are ∙ has.numbers;
       one_each = same;
-      origin_each = has.origin_each;
+      constants_each = has.constants_each;
       before_each = long ∙ has.before_each;
       own = λ p within.
           (cell-after net cells halo connectors t n placed new outs carried ins after put p sound before has bounds seen steps within).1;
@@ -501,7 +488,7 @@ placed-after net cells halo connectors t n placed new outs carried ins after bef
           let here : p < length placed.places = omega (arith, has.one_each) in
           let is = ap (λ place. place.space) (steps.stepped_each p there) ∙ ap (λ place. place.space) (steps.now.kept.only_most p here) in
           subst (λ space. IsSpaceOf space (room_at net.cells (slice_index cells p))) (sym is) (has.space p within);
-      come = come-followed t placed.ties ties ties_are;
+      come = come-followed t placed.connectors others others_are;
       unchanged = unchanged;
       gates = gates-asked t placed.gates gates gates_are ∙ has.gates;
       demands = demands-asked net cells t placed.gates gates gates_are has.demands;
@@ -520,13 +507,13 @@ placed-after net cells halo connectors t n placed new outs carried ins after bef
 pub settled-after : (net : Network) (cells halo connectors : List ℕ) (t : ℕ) (n : ℕ → ℕ) (placed : PlacedCells) (new : Renewal) (outs carried ins : ℕ → ℕ) (after : List Place) (before_list : List ℕ) (put : List (Option ℕ)) →
     IsNetwork net → t < net.steps → ArePlaced net cells halo connectors t placed → ArePlacesInBounds net cells halo t placed put →
     IsSeen n cells halo placed.places put → AreSteps net cells halo connectors t n placed new outs carried ins after →
-    length before_list ≡ length placed.before → AreSettled placed.origins after before_list
+    length before_list ≡ length placed.before → AreSettled placed.constants after before_list
 unfolding next_row
 settled-after net cells halo connectors t n placed new outs carried ins after before_list put sound before has bounds seen steps long = record {
-  one_each = steps.long_after ∙ steps.now.kept.long ∙ has.one_each ∙ sym has.origin_each;
-  before_each = long ∙ has.before_each ∙ sym has.origin_each;
+  one_each = steps.long_after ∙ steps.now.kept.long ∙ has.one_each ∙ sym has.constants_each;
+  before_each = long ∙ has.before_each ∙ sym has.constants_each;
   each = λ p inside.
-      let within : p < length cells = omega (arith, has.origin_each) in
+      let within : p < length cells = omega (arith, has.constants_each) in
       let next = cell-after net cells halo connectors t n placed new outs carried ins after put p sound before has bounds seen steps within in
       let is = ready net t n cells halo connectors placed put p sound before has bounds seen within in
       let n_is = ap (λ row. row.n) next.0 in
@@ -545,16 +532,16 @@ settled-after net cells halo connectors t n placed new outs carried ins after be
         sums = next.1.sums;
         fits = omega arith;
         room = held-fits (place_at after p).n 0 (place_at after p).space (room_at net.cells i) space
-            (has-space net (t + 1) i (place_at after p).n 0 is.there held (omega arith));
+            (has-space net (t + 1) i (place_at after p).n 0 sound (omega (arith, before)) is.there held (omega arith));
       };
 }
 
 -- what a step says of the cells as they are kept it says of them as contracts see them
-pub rows-read : (net : Network) (cells : List ℕ) (t : ℕ) (placed old : PlacedCells) (put : List (Option ℕ)) (origins : List Origin) (places : List Place) → placed ≡ old →
-    ((can : CanAdvance net cells t placed put) → rows_of origins places ≡ rows_after net t can.n cells (rows_of placed.origins placed.places)) →
-    (can : CanAdvance net cells t old put) → rows_of origins places ≡ rows_after net t can.n cells (rows_of old.origins old.places)
-rows-read net cells t placed old put origins places is says =
-    subst (λ from. (can : CanAdvance net cells t from put) → rows_of origins places ≡ rows_after net t can.n cells (rows_of from.origins from.places)) is says
+pub rows-read : (net : Network) (cells : List ℕ) (t : ℕ) (placed old : PlacedCells) (put : List (Option ℕ)) (constants : List CellConstants) (places : List Place) → placed ≡ old →
+    ((can : CanAdvance net cells t placed put) → rows_of constants places ≡ rows_after net t can.n cells (rows_of placed.constants placed.places)) →
+    (can : CanAdvance net cells t old put) → rows_of constants places ≡ rows_after net t can.n cells (rows_of old.constants old.places)
+rows-read net cells t placed old put constants places is says =
+    subst (λ from. (can : CanAdvance net cells t from put) → rows_of constants places ≡ rows_after net t can.n cells (rows_of from.constants from.places)) is says
 
 pub placed-read : (net : Network) (cells : List ℕ) (t : ℕ) (placed old : PlacedCells) (put : List (Option ℕ)) (new : PlacedCells) → placed ≡ old →
     ((can : CanAdvance net cells t placed put) → ArePlaced net cells can.halo can.connectors (t + 1) new) →

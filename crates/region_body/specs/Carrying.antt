@@ -11,31 +11,31 @@ use Rattle.region_body.specs.CellRefs.{AreRefsOf, IsWithin, held_before, parts_a
 use Rattle.region_body.specs.Places.{place_at, with_entered, with_left}
 use Rattle.region_body.specs.declared.cell_ref.CellRef.{CellRef}
 use Rattle.region_body.specs.declared.place.Place.{Place}
-use Rattle.region_body.specs.declared.tie.Tie.{Tie}
+use Rattle.region_body.specs.declared.followed_connector.FollowedConnector.{FollowedConnector}
 
--- the tie is that of a connector of the network: its cells and its course are the connector's
-pub record IsTie (net : Network) (cells halo : List ℕ) (tie : Tie) : Type 0 where
-  pub there : tie.connector < length net.connectors
-  pub refs : AreRefsOf cells halo (connector_at net.connectors tie.connector) tie.cells
-  pub course : IsCourseOf net (connector_at net.connectors tie.connector) tie.course
+-- the connector is one of the network: its cells and what it carries are as there
+pub record IsConnected (net : Network) (cells halo : List ℕ) (connector : FollowedConnector) : Type 0 where
+  pub there : connector.number < length net.connectors
+  pub refs : AreRefsOf cells halo (connector_at net.connectors connector.number) connector.cells
+  pub course : IsCourseOf net (connector_at net.connectors connector.number) connector.course
 
--- what the three cells of a tie hold
-abbrev pub three_held : Tie → (held : CellRef → ℕ) → List ℕ
-three_held tie held = held (ref_at tie.cells 0) ∷ held (ref_at tie.cells 1) ∷ held (ref_at tie.cells 2) ∷ []
+-- what its three cells hold
+abbrev pub three_held : FollowedConnector → (held : CellRef → ℕ) → List ℕ
+three_held connector held = held (ref_at connector.cells 0) ∷ held (ref_at connector.cells 1) ∷ held (ref_at connector.cells 2) ∷ []
 
--- what the connector of a tie carries in step t
-abbrev pub carried_of : (t : ℕ) → Tie → (held : CellRef → ℕ) → Flow
-carried_of t tie held = flow_at tie.course t (three_held tie held)
+-- what it carries in step t
+abbrev pub carried_of : (t : ℕ) → FollowedConnector → (held : CellRef → ℕ) → Flow
+carried_of t connector held = flow_at connector.course t (three_held connector held)
 
 -- it can carry it: its cells are there, and its limits are those of the step
-pub record CanCarry (t : ℕ) (tie : Tie) (places : List Place) (put : List (Option ℕ)) : Type 0 where
-  pub refs : (m : ℕ) → m < 3 → IsWithin (length places) put (ref_at tie.cells m)
-  pub step : tie.course.step ≤ t
-  pub until : t < tie.course.until
+pub record CanCarry (t : ℕ) (connector : FollowedConnector) (places : List Place) (put : List (Option ℕ)) : Type 0 where
+  pub refs : (m : ℕ) → m < 3 → IsWithin (length places) put (ref_at connector.cells m)
+  pub step : connector.course.step ≤ t
+  pub until : t < connector.course.until
 
--- a tie that was followed to step t carries as before, within the same limits in that step
-pub record IsTieFollowed (t : ℕ) (old new : Tie) : Type 0 where
-  pub connector : new.connector ≡ old.connector
+-- a connector that was followed to step t carries as before, within the same limits in that step
+pub record IsConnectorFollowed (t : ℕ) (old new : FollowedConnector) : Type 0 where
+  pub number : new.number ≡ old.number
   pub cells : new.cells ≡ old.cells
   pub rule : new.course.rule ≡ old.course.rule
   pub flow : (s : ℕ) (n : List ℕ) → flow_at new.course s n ≡ flow_at old.course s n
@@ -43,27 +43,27 @@ pub record IsTieFollowed (t : ℕ) (old new : Tie) : Type 0 where
   pub later : t < new.course.until
 
 -- so do all
-pub record AreTiesFollowed (t : ℕ) (old new : List Tie) : Type 0 where
+pub record AreConnectorsFollowed (t : ℕ) (old new : List FollowedConnector) : Type 0 where
   pub long : length new ≡ length old
-  pub each : (k : ℕ) (d : Tie) → k < length old → IsTieFollowed t (slice_index_or old k d) (slice_index_or new k d)
+  pub each : (k : ℕ) (d : FollowedConnector) → k < length old → IsConnectorFollowed t (slice_index_or old k d) (slice_index_or new k d)
 
 -- what a connector takes from place p by its rule, and what it brings to it
-abbrev pub taken_by : Rule → Tie → Flow → (p : ℕ) → ℕ
-taken_by Linking tie flow p = parts_at (ref_at tie.cells 0) flow.out1 p
-taken_by Merging tie flow p = parts_at (ref_at tie.cells 0) flow.out1 p + parts_at (ref_at tie.cells 1) flow.out2 p
-taken_by Diverging tie flow p = parts_at (ref_at tie.cells 0) flow.out1 p
+abbrev pub taken_by : Rule → FollowedConnector → Flow → (p : ℕ) → ℕ
+taken_by Linking connector flow p = parts_at (ref_at connector.cells 0) flow.out1 p
+taken_by Merging connector flow p = parts_at (ref_at connector.cells 0) flow.out1 p + parts_at (ref_at connector.cells 1) flow.out2 p
+taken_by Diverging connector flow p = parts_at (ref_at connector.cells 0) flow.out1 p
 
-abbrev pub brought_by : Rule → Tie → Flow → (p : ℕ) → ℕ
-brought_by Linking tie flow p = parts_at (ref_at tie.cells 1) flow.in1 p
-brought_by Merging tie flow p = parts_at (ref_at tie.cells 2) flow.in1 p
-brought_by Diverging tie flow p = parts_at (ref_at tie.cells 1) flow.in1 p + parts_at (ref_at tie.cells 2) flow.in2 p
+abbrev pub brought_by : Rule → FollowedConnector → Flow → (p : ℕ) → ℕ
+brought_by Linking connector flow p = parts_at (ref_at connector.cells 1) flow.in1 p
+brought_by Merging connector flow p = parts_at (ref_at connector.cells 2) flow.in1 p
+brought_by Diverging connector flow p = parts_at (ref_at connector.cells 1) flow.in1 p + parts_at (ref_at connector.cells 2) flow.in2 p
 
--- the same of a tie in step t
-unfoldable pub taken : (t : ℕ) → (held : CellRef → ℕ) → (p : ℕ) → Tie → ℕ
-taken t held p tie = taken_by tie.course.rule tie (carried_of t tie held) p
+-- the same in step t
+unfoldable pub taken : (t : ℕ) → (held : CellRef → ℕ) → (p : ℕ) → FollowedConnector → ℕ
+taken t held p connector = taken_by connector.course.rule connector (carried_of t connector held) p
 
-unfoldable pub brought : (t : ℕ) → (held : CellRef → ℕ) → (p : ℕ) → Tie → ℕ
-brought t held p tie = brought_by tie.course.rule tie (carried_of t tie held) p
+unfoldable pub brought : (t : ℕ) → (held : CellRef → ℕ) → (p : ℕ) → FollowedConnector → ℕ
+brought t held p connector = brought_by connector.course.rule connector (carried_of t connector held) p
 
 -- a place from which so much was taken and to which so much was brought
 abbrev pub passed : Place → (enters leaves : ℕ) → Place
@@ -75,22 +75,22 @@ pub record CanPass (place : Place) (enters leaves : ℕ) : Type 0 where
   pub gone : place.gone + leaves < 2 ^ 64
   pub fits : place.n + enters < 2 ^ 64
 
--- so can each place what this tie takes from it and brings to it in step t, by what the cells held before
-abbrev pub CanTiePass : (t : ℕ) → (before : List ℕ) → (put : List (Option ℕ)) → Tie → List Place → Type 0
-CanTiePass t before put tie places =
-    (p : ℕ) → p < length places → CanPass (place_at places p) (brought t (held_before before put) p tie) (taken t (held_before before put) p tie)
+-- so can each place what this connector takes from it and brings to it in step t, by what the cells held before
+abbrev pub CanConnectorPass : (t : ℕ) → (before : List ℕ) → (put : List (Option ℕ)) → FollowedConnector → List Place → Type 0
+CanConnectorPass t before put connector places =
+    (p : ℕ) → p < length places → CanPass (place_at places p) (brought t (held_before before put) p connector) (taken t (held_before before put) p connector)
 
 -- and it has
-abbrev pub HasTiePassed : (t : ℕ) → (before : List ℕ) → (put : List (Option ℕ)) → Tie → (old new : List Place) → Type 0
-HasTiePassed t before put tie old new =
-    (p : ℕ) → p < length old → place_at new p ≡ passed (place_at old p) (brought t (held_before before put) p tie) (taken t (held_before before put) p tie)
+abbrev pub HasConnectorPassed : (t : ℕ) → (before : List ℕ) → (put : List (Option ℕ)) → FollowedConnector → (old new : List Place) → Type 0
+HasConnectorPassed t before put connector old new =
+    (p : ℕ) → p < length old → place_at new p ≡ passed (place_at old p) (brought t (held_before before put) p connector) (taken t (held_before before put) p connector)
 
--- the same of what all these ties take and bring
-abbrev pub CanTiesPass : (t : ℕ) → (before : List ℕ) → (put : List (Option ℕ)) → List Tie → List Place → Type 0
-CanTiesPass t before put ties places =
-    (p : ℕ) → p < length places → CanPass (place_at places p) (sum_by (brought t (held_before before put) p) ties) (sum_by (taken t (held_before before put) p) ties)
+-- the same of what all these connectors take and bring
+abbrev pub CanConnectorsPass : (t : ℕ) → (before : List ℕ) → (put : List (Option ℕ)) → List FollowedConnector → List Place → Type 0
+CanConnectorsPass t before put connectors places =
+    (p : ℕ) → p < length places → CanPass (place_at places p) (sum_by (brought t (held_before before put) p) connectors) (sum_by (taken t (held_before before put) p) connectors)
 
-abbrev pub HaveTiesPassed : (t : ℕ) → (before : List ℕ) → (put : List (Option ℕ)) → List Tie → (old new : List Place) → Type 0
-HaveTiesPassed t before put ties old new =
+abbrev pub HaveConnectorsPassed : (t : ℕ) → (before : List ℕ) → (put : List (Option ℕ)) → List FollowedConnector → (old new : List Place) → Type 0
+HaveConnectorsPassed t before put connectors old new =
     (p : ℕ) → p < length old →
-    place_at new p ≡ passed (place_at old p) (sum_by (brought t (held_before before put) p) ties) (sum_by (taken t (held_before before put) p) ties)
+    place_at new p ≡ passed (place_at old p) (sum_by (brought t (held_before before put) p) connectors) (sum_by (taken t (held_before before put) p) connectors)

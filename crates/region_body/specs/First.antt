@@ -7,12 +7,12 @@ use Rattle.flow_model.specs.Limits.{room_at}
 use Rattle.flow_model.specs.declared.row.Row.{Row}
 use Rattle.connector_flow.specs.Space.{IsSpaceOf}
 use Rattle.region_body.specs.declared.place.Place.{Place}
-use Rattle.region_body.specs.declared.origin.Origin.{Origin}
+use Rattle.region_body.specs.declared.cell_constants.CellConstants.{CellConstants}
 
 -- what never changes of cell i
-pub record IsOriginOf (net : Network) (i : ℕ) (origin : Origin) : Type 0 where
-  pub first : origin.first ≡ first_at net.cells i
-  pub exit : origin.is_exit ≡ is_exit_at net.cells i
+pub record AreConstantsOf (net : Network) (i : ℕ) (constants : CellConstants) : Type 0 where
+  pub first : constants.first ≡ first_at net.cells i
+  pub exit : constants.is_exit ≡ is_exit_at net.cells i
 
 -- the place of cell i with this row, joined to no other
 pub record IsFirst (net : Network) (i : ℕ) (row : Row) (place : Place) : Type 0 where

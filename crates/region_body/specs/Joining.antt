@@ -5,7 +5,7 @@ use Rattle.network_file.specs.declared.connector.Connector.{Connector}
 use Rattle.region_cut.specs.ConnectorCells.{three_cells}
 use Rattle.signal_plan.specs.Records.{PlanRecords}
 use Rattle.courses.specs.Links.{most_between}
-use Rattle.region_body.specs.declared.followed.FollowedLink.{FollowedLink}
+use Rattle.region_body.specs.declared.followed_link.FollowedLink.{FollowedLink}
 
 -- what links carry at most now, and after the p-th of these cells was joined to the next
 pub record Extends (plan : PlanRecords) (cells : List ℕ) (p : ℕ) (links : List FollowedLink) (most later : ℕ → ℕ → ℕ) : Type 0 where

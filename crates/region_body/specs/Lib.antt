@@ -3,7 +3,7 @@ pub mod Runs
 pub mod Speeds
 pub mod Sweeping
 pub mod Moving
-pub mod Followed
+pub mod FollowedLinks
 pub mod Chains
 pub mod SpeedFactors
 pub mod Rows

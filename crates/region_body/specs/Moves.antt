@@ -11,8 +11,8 @@ use Rattle.region_body.specs.Chains.{AreDistinct}
 use Rattle.region_body.specs.CellRefs.{put_at}
 use Rattle.region_body.specs.Places.{place_at}
 use Rattle.region_body.specs.declared.place.Place.{Place}
-use Rattle.region_body.specs.Carrying.{IsTie}
-use Rattle.region_body.specs.declared.tie.Tie.{Tie}
+use Rattle.region_body.specs.Carrying.{IsConnected}
+use Rattle.region_body.specs.declared.followed_connector.FollowedConnector.{FollowedConnector}
 
 -- what connector k takes from cell i in step t, where the cells hold n
 abbrev pub out_by : Network → (t : ℕ) → (ℕ → ℕ) → (i k : ℕ) → ℕ
@@ -31,22 +31,22 @@ pub record IsSeen (n : ℕ → ℕ) (cells halo : List ℕ) (places : List Place
   pub own : (p : ℕ) → p < length cells → n (slice_index cells p) ≡ (place_at places p).n
   pub around : (j : ℕ) → j < length halo → n (slice_index halo j) ≡ put_at put j
 
--- ties of a region's connectors: no cell of its halo is its own
-pub record AreTied (net : Network) (cells halo : List ℕ) (ties : List Tie) : Type 0 where
+-- connectors of a region: no cell of its halo is its own
+pub record AreConnected (net : Network) (cells halo : List ℕ) (connectors : List FollowedConnector) : Type 0 where
   pub distinct : AreDistinct cells
   pub apart : (p j : ℕ) → p < length cells → j < length halo → slice_index cells p ≢ slice_index halo j
-  pub tied : All (IsTie net cells halo) ties
+  pub each : All (IsConnected net cells halo) connectors
 
--- from each place goes what the connectors of these ties take from its cell, and to it comes what they bring
-pub record ArePartsOf (net : Network) (t : ℕ) (n : ℕ → ℕ) (cells : List ℕ) (ties : List Tie) (outs ins : ℕ → ℕ) : Type 0 where
-  pub taken : (p : ℕ) → p < length cells → outs p ≡ sum_by (λ tie. out_by net t n (slice_index cells p) tie.connector) ties
-  pub brought : (p : ℕ) → p < length cells → ins p ≡ sum_by (λ tie. in_by net t n (slice_index cells p) tie.connector) ties
+-- from each place goes what these connectors take from its cell, and to it comes what they bring
+pub record ArePartsOf (net : Network) (t : ℕ) (n : ℕ → ℕ) (cells : List ℕ) (connectors : List FollowedConnector) (outs ins : ℕ → ℕ) : Type 0 where
+  pub taken : (p : ℕ) → p < length cells → outs p ≡ sum_by (λ connector. out_by net t n (slice_index cells p) connector.number) connectors
+  pub brought : (p : ℕ) → p < length cells → ins p ≡ sum_by (λ connector. in_by net t n (slice_index cells p) connector.number) connectors
 
--- the region's cells and those of its halo, which are others, with an occupancy in bounds for each, and ties of its connectors
-pub record IsScene (net : Network) (t : ℕ) (cells halo : List ℕ) (ties : List Tie) (places : List Place) (put : List (Option ℕ)) : Type 0 where
+-- the region's cells and those of its halo, which are others, with an occupancy in bounds for each, and its connectors
+pub record IsScene (net : Network) (t : ℕ) (cells halo : List ℕ) (connectors : List FollowedConnector) (places : List Place) (put : List (Option ℕ)) : Type 0 where
   pub sound : IsNetwork net
   pub before : t < net.steps
-  pub tied : AreTied net cells halo ties
+  pub connected : AreConnected net cells halo connectors
   pub place_each : length places ≡ length cells
   pub put_each : length put ≡ length halo
   pub own : (p : ℕ) → p < length cells → IsHeldInBounds net t (slice_index cells p) (place_at places p).n

@@ -13,27 +13,27 @@ use Rattle.region_body.specs.Places.{place_at}
 use Rattle.connector_flow.specs.Space.{IsSpaceOf}
 use Rattle.region_body.specs.declared.place.Place.{Place}
 use Rattle.courses.specs.Courses.{value_at}
-use Rattle.region_body.specs.Followed.{AreFollowed, IsThere}
-use Rattle.region_body.specs.declared.followed.FollowedLink.{FollowedLink}
+use Rattle.region_body.specs.FollowedLinks.{AreFollowed, IsLinkThere}
+use Rattle.region_body.specs.declared.followed_link.FollowedLink.{FollowedLink}
 use Rattle.region_body.specs.Chains.{AreAround, most_out, odd_ones}
 use Rattle.region_body.specs.Joining.{AreKnown}
-use Rattle.region_body.specs.Moves.{AreTied, IsSeen}
+use Rattle.region_body.specs.Moves.{AreConnected, IsSeen}
 use Rattle.region_body.specs.Pausing.{IsPauseOf}
-use Rattle.region_body.specs.Rows.{IsOf, origin_at, rows_of}
+use Rattle.region_body.specs.Rows.{IsOf, constants_at, rows_of}
 use Rattle.region_body.specs.Runs.{AreRuns}
 use Rattle.region_body.specs.Speeds.{AreSpeedsOf, is_slow}
 use Rattle.region_body.specs.declared.followed_speed.FollowedSpeed.{FollowedSpeed}
 use Rattle.region_body.specs.declared.run.Run.{Run}
 use Rattle.region_body.specs.Gates.{IsGateOf}
 use Rattle.region_body.specs.declared.gate.GatePlace.{GatePlace}
-use Rattle.region_body.specs.declared.origin.Origin.{Origin}
+use Rattle.region_body.specs.declared.cell_constants.CellConstants.{CellConstants}
 use Rattle.region_body.specs.declared.pause.Pause.{Pause}
-use Rattle.region_body.specs.declared.tie.Tie.{Tie}
+use Rattle.region_body.specs.declared.followed_connector.FollowedConnector.{FollowedConnector}
 
 pub record PlacedCells : Type 0 where
   -- a place for each cell, what never changes of it, and what it held a step before
   pub places : List Place
-  pub origins : List Origin
+  pub constants : List CellConstants
   pub before : List ℕ
   -- the speed at each place, where places lie whose cells have speed records, and how these change, none before a step
   pub speeds : List (ℕ × ℕ)
@@ -42,8 +42,8 @@ pub record PlacedCells : Type 0 where
   pub speeds_until : ℕ
   -- the links to neighbours whose most changes, and the other connectors, none of which changes before a step
   pub links : List FollowedLink
-  pub ties : List Tie
-  pub ties_until : ℕ
+  pub connectors : List FollowedConnector
+  pub connectors_until : ℕ
   -- the gates among them
   pub gates : List GatePlace
   -- for how long nothing moves among them, and what was seen of their halo when that was found
@@ -54,27 +54,27 @@ pub record PlacedCells : Type 0 where
 pub record ArePlaced (net : Network) (cells halo connectors : List ℕ) (t : ℕ) (placed : PlacedCells) : Type 0 where
   pub around : AreAround net cells connectors
   pub known : All (λ k. AreKnown cells halo (connector_at net.connectors k)) connectors
-  pub tied : AreTied net cells halo placed.ties
-  pub numbers : map (λ tie. tie.connector) placed.ties ≡ odd_ones net cells connectors
+  pub connected : AreConnected net cells halo placed.connectors
+  pub numbers : map (λ connector. connector.number) placed.connectors ≡ odd_ones net cells connectors
   pub one_each : length placed.places ≡ length cells
-  pub origin_each : length placed.origins ≡ length cells
+  pub constants_each : length placed.constants ≡ length cells
   pub before_each : length placed.before ≡ length cells
-  pub own : (p : ℕ) → p < length cells → IsOf net (slice_index cells p) (origin_at placed.origins p) (place_at placed.places p)
+  pub own : (p : ℕ) → p < length cells → IsOf net (slice_index cells p) (constants_at placed.constants p) (place_at placed.places p)
   pub space : (p : ℕ) → p < length cells → IsSpaceOf (place_at placed.places p).space (room_at net.cells (slice_index cells p))
-  pub come : All (λ tie. tie.course.step ≤ t) placed.ties
-  pub unchanged : All (λ tie. placed.ties_until ≤ tie.course.until) placed.ties
+  pub come : All (λ connector. connector.course.step ≤ t) placed.connectors
+  pub unchanged : All (λ connector. placed.connectors_until ≤ connector.course.until) placed.connectors
   pub gates : map (λ gate. gate.place) placed.gates ≡ filter (λ p. is_gate_at net.cells (slice_index cells p)) (range_with_len 0 (length cells))
   pub demands : All (IsGateOf net cells t) placed.gates
-  pub links : All (IsThere (length placed.places) t) placed.links
+  pub links : All (IsLinkThere (length placed.places) t) placed.links
   pub speeds : AreSpeedsOf net cells placed.speed_courses placed.speeds t placed.speeds_until
   pub runs : AreRuns (is_slow net cells) (length cells - 1) placed.runs
   pub followed : AreFollowed (most_out net cells connectors) placed.places placed.links t
-  pub pause : IsPauseOf placed.places placed.before placed.speeds placed.speeds_until placed.links placed.ties placed.seen t placed.pause
+  pub pause : IsPauseOf placed.places placed.before placed.speeds placed.speeds_until placed.links placed.connectors placed.seen t placed.pause
   pub seen_each : length placed.seen ≡ length halo
 
 -- the rows are in bounds, and so is what was put for each cell of the halo
 pub record ArePlacesInBounds (net : Network) (cells halo : List ℕ) (t : ℕ) (placed : PlacedCells) (put : List (Option ℕ)) : Type 0 where
-  pub own : (p : ℕ) → p < length cells → IsRowInBounds net t (slice_index cells p) (row_at (rows_of placed.origins placed.places) p)
+  pub own : (p : ℕ) → p < length cells → IsRowInBounds net t (slice_index cells p) (row_at (rows_of placed.constants placed.places) p)
   pub put_each : length put ≡ length halo
   pub around : (j : ℕ) → j < length halo → IsHeldInBounds net t (slice_index halo j) (put_at put j)
 

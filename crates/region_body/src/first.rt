@@ -1,21 +1,21 @@
 ghost use Rattle.std.specs.Prelude.{◌≡◌, ◌<◌, ◌≤◌, length};
 ghost use Rattle.flow_model.specs.Bounds.{IsRowInBounds, first_at};
 ghost use Rattle.network_file.specs.Cells.{is_exit_at};
-ghost use Rattle.region_body.specs.First.{IsFirst, IsOriginOf};
+ghost use Rattle.region_body.specs.First.{AreConstantsOf, IsFirst};
 
-use crate::origin::Origin;
+use crate::cell_constants::CellConstants;
 use crate::place::Place;
 use connector_flow::space_of;
 use flow_model::Row;
 use network_file::{Kind, Net};
 
 /// What never changes of cell `i`.
-pub(crate) fn origin_of(net: &Net, i: u32) -> Origin
+pub(crate) fn cell_constants_of(net: &Net, i: u32) -> CellConstants
     requires there { i < length net.now.cells }
-    ensures { IsOriginOf net.now i result }
+    ensures { AreConstantsOf net.now i result }
 {
     let cell = &net.cells[i as usize];
-    Origin {
+    CellConstants {
         first: cell.first,
         is_exit: matches!(cell.kind, Kind::Exit),
     }

@@ -1,9 +1,9 @@
 ghost use Rattle.std.specs.Prelude.{◌≡◌, ◌+◌, ◌<◌, ◌≤◌, ℕ, All, OnOk, length};
 ghost use Rattle.region_body.specs.Places.{place_at};
-ghost use Rattle.region_body.specs.Followed.{AreFollowed, IsThere};
+ghost use Rattle.region_body.specs.FollowedLinks.{AreFollowed, IsLinkThere};
 ghost use Rattle.region_body.specs.Joining.{Extends, IsAt};
 
-use crate::followed::FollowedLink;
+use crate::followed_link::FollowedLink;
 use crate::place::Place;
 use courses::LinkCourse;
 use network_file::Net;
@@ -25,8 +25,8 @@ pub(crate) fn join_next(
     requires within { p + 1 < length cells.now }
     requires there { All (λ i. i < length net.now.cells) cells.now }
     requires one_each { length places.old ≡ length cells.now }
-    requires links { All (IsThere (length places.old) t) links.old.items }
-    ensures links { OnOk result (All (IsThere (length places.old) t) links.new.items) }
+    requires links { All (IsLinkThere (length places.old) t) links.old.items }
+    ensures links { OnOk result (All (IsLinkThere (length places.old) t) links.new.items) }
     ensures at { OnOk result (IsAt p links.old.items links.new.items) }
     ensures only_most { (q : ℕ) → place_at places.new q ≡ record (place_at places.old q) { most = (place_at places.new q).most } }
     ensures followed { OnOk result ((most later : ℕ → ℕ → ℕ) → AreFollowed most places.old links.old.items t →

@@ -4,13 +4,13 @@ ghost use Rattle.network_file.specs.Cells.{is_gate_at};
 ghost use Rattle.flow_model.specs.Bounds.{IsRowInBounds};
 ghost use Rattle.flow_model.specs.State.{row_at};
 ghost use Rattle.region_body.specs.Places.{place_at};
-ghost use Rattle.region_body.specs.First.{IsFirst, IsOriginOf};
+ghost use Rattle.region_body.specs.First.{AreConstantsOf, IsFirst};
 ghost use Rattle.region_body.specs.Gates.{IsGateOf};
-ghost use Rattle.region_body.specs.Rows.{origin_at};
+ghost use Rattle.region_body.specs.Rows.{constants_at};
 
-use crate::first::{origin_of, place_of};
+use crate::cell_constants::CellConstants;
+use crate::first::{cell_constants_of, place_of};
 use crate::gate::GatePlace;
-use crate::origin::Origin;
 use crate::place::Place;
 use courses::demand_of;
 use flow_model::Row;
@@ -19,17 +19,21 @@ use no_memory::NoMemory;
 use std::alloc::Global;
 
 /// What never changes of these cells.
-pub(crate) fn origins_of(alloc: Global, net: &Net, cells: &[u32]) -> Result<Vec<Origin>, NoMemory>
+pub(crate) fn constants_of(
+    alloc: Global,
+    net: &Net,
+    cells: &[u32],
+) -> Result<Vec<CellConstants>, NoMemory>
     requires there { All (λ i. i < length net.now.cells) cells.now }
-    ensures one_each { IfOk result (λ origins. length origins.items ≡ length cells.now) }
-    ensures each { IfOk result (λ origins. (p : ℕ) → p < length cells.now →
-        IsOriginOf net.now (slice_index cells.now p) (origin_at origins.items p)) }
+    ensures one_each { IfOk result (λ constants. length constants.items ≡ length cells.now) }
+    ensures each { IfOk result (λ constants. (p : ℕ) → p < length cells.now →
+        AreConstantsOf net.now (slice_index cells.now p) (constants_at constants.items p)) }
 {
-    let mut origins = Vec::with_capacity(alloc, cells.len())?;
+    let mut constants = Vec::with_capacity(alloc, cells.len())?;
     for i in cells {
-        origins.push(origin_of(net, *i))?;
+        constants.push(cell_constants_of(net, *i))?;
     }
-    Ok(origins)
+    Ok(constants)
 }
 
 /// The places of these cells with their rows at step `t`, none joined to another.

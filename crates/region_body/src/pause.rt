@@ -5,11 +5,11 @@ ghost use Rattle.region_body.specs.Carrying.{three_held};
 ghost use Rattle.region_body.specs.CellRefs.{IsWithin, held_in, ref_at};
 ghost use Rattle.region_body.specs.Pausing.{AreIdle, IsIdleUntil};
 
-use crate::followed::FollowedLink;
+use crate::followed_connector::FollowedConnector;
+use crate::followed_link::FollowedLink;
 use crate::movement::moving;
 use crate::place::Place;
 use crate::speed_factor::SpeedFactor;
-use crate::tie::Tie;
 
 /// For how long nothing moves among cells.
 #[derive(Clone, Copy)]
@@ -39,14 +39,14 @@ impl Pause {
         speeds: &[SpeedFactor],
         speeds_until: u64,
         links: &[FollowedLink],
-        ties: &[Tie],
+        connectors: &[FollowedConnector],
         put: &[Option<u64>],
     ) -> Pause
         requires sound { AreSound places.now }
         requires there { All (λ link. link.place < length places.now) links.now }
-        requires cells { All (λ tie. (m : ℕ) → m < 3 → IsWithin (length places.now) put.now (ref_at tie.cells m)) ties.now }
+        requires cells { All (λ connector. (m : ℕ) → m < 3 → IsWithin (length places.now) put.now (ref_at connector.cells m)) connectors.now }
         ensures none_owed { result.owed ≡ 0 }
-        ensures idle { (s : ℕ) → s < result.until → AreIdle places.now speeds.now speeds_until links.now ties.now put.now result.until }
+        ensures idle { (s : ℕ) → s < result.until → AreIdle places.now speeds.now speeds_until links.now connectors.now put.now result.until }
     {
         match moving(places, speeds, mover) {
             Some(mover) => Pause {
@@ -58,7 +58,7 @@ impl Pause {
                 owed: 0,
                 until: links_until(links, places)
                     .min(speeds_until)
-                    .min(ties_until(ties, places, put)),
+                    .min(connectors_until(connectors, places, put)),
                 mover,
             },
         }
@@ -80,13 +80,13 @@ fn links_until(links: &[FollowedLink], places: &[Place]) -> u64
 }
 
 // A step before which none of these connectors carries anything as long as their cells hold what they do; 0 where one does.
-fn ties_until(ties: &[Tie], places: &[Place], put: &[Option<u64>]) -> u64
-    requires { All (λ tie. (m : ℕ) → m < 3 → IsWithin (length places.now) put.now (ref_at tie.cells m)) ties.now }
-    ensures { All (IsIdleUntil places.now put.now result) ties.now }
+fn connectors_until(connectors: &[FollowedConnector], places: &[Place], put: &[Option<u64>]) -> u64
+    requires { All (λ connector. (m : ℕ) → m < 3 → IsWithin (length places.now) put.now (ref_at connector.cells m)) connectors.now }
+    ensures { All (IsIdleUntil places.now put.now result) connectors.now }
 {
     let mut until = u64::MAX;
-    for tie in ties {
-        until = until.min(tie.course.idle_until(held_by(tie, places, put)));
+    for connector in connectors {
+        until = until.min(connector.course.idle_until(held_by(connector, places, put)));
         if until == 0 {
             return 0;
         }
@@ -95,11 +95,11 @@ fn ties_until(ties: &[Tie], places: &[Place], put: &[Option<u64>]) -> u64
 }
 
 // What its cells hold.
-fn held_by(tie: &Tie, places: &[Place], put: &[Option<u64>]) -> [u64; 3]
-    requires { (m : ℕ) → m < 3 → IsWithin (length places.now) put.now (ref_at tie.now.cells m) }
-    ensures { result ≡ three_held tie.now (held_in places.now put.now) }
+fn held_by(connector: &FollowedConnector, places: &[Place], put: &[Option<u64>]) -> [u64; 3]
+    requires { (m : ℕ) → m < 3 → IsWithin (length places.now) put.now (ref_at connector.now.cells m) }
+    ensures { result ≡ three_held connector.now (held_in places.now put.now) }
 {
-    let [a, b, c] = tie.cells;
+    let [a, b, c] = connector.cells;
     [
         a.held_in(places, put),
         b.held_in(places, put),

@@ -8,26 +8,25 @@ ghost use Rattle.region_body.specs.CellRefs.{IsWithin, ref_at};
 ghost use Rattle.region_body.specs.Gates.{AreGatesKept};
 ghost use Rattle.region_body.specs.Pausing.{AreIdle};
 ghost use Rattle.region_body.specs.Placed.{AreCells, ArePlaced, CanAdvance, WaitThrough};
-ghost use Rattle.region_body.specs.Rows.{origin_at, rows_of};
+ghost use Rattle.region_body.specs.Rows.{constants_at, rows_of};
 ghost use Rattle.region_body.specs.Waiting.{waited};
 
 use crate::carry::carry_all;
+use crate::cell_constants::CellConstants;
 use crate::cells::Cells;
+use crate::connections::join_places;
 use crate::demands::{bring_demands, nothing_demanded};
-use crate::follow::follow;
-use crate::followed::{FollowedLink, refresh};
+use crate::followed_connector::{FollowedConnector, follow_connectors};
+use crate::followed_link::{FollowedLink, refresh};
 use crate::followed_speed::{FollowedSpeed, follow_speeds};
 use crate::gate::GatePlace;
-use crate::joints::join_places;
-use crate::opening::{earlier_of, gates_of, nothing_put, origins_of, places_of};
-use crate::origin::Origin;
+use crate::opening::{constants_of, earlier_of, gates_of, nothing_put, places_of};
 use crate::pause::{Pause, hold_the_same, note_seen};
 use crate::place::Place;
 use crate::run::Run;
 use crate::speed_factor::SpeedFactor;
 use crate::speeds::speeds_of;
 use crate::sweep::sweep;
-use crate::tie::Tie;
 use crate::waiting::{note_held, wait_all, waited};
 use flow_model::Row;
 use network_file::Net;
@@ -41,7 +40,7 @@ use std::marker::Model;
 #[derive(Drop)]
 pub struct PlacedRows {
     places: Vec<Place>,
-    origins: Vec<Origin>,
+    constants: Vec<CellConstants>,
     before: Vec<u64>,
     // The speed at each place, none where no cell has speed records; where places lie whose cells have some; and how these
     // change, none before a step.
@@ -50,9 +49,9 @@ pub struct PlacedRows {
     speed_courses: Vec<FollowedSpeed>,
     speeds_until: u64,
     links: Vec<FollowedLink>,
-    ties: Vec<Tie>,
-    // None of the ties changes before this step.
-    ties_until: u64,
+    connectors: Vec<FollowedConnector>,
+    // No connector changes before this step.
+    connectors_until: u64,
     gates: Vec<GatePlace>,
     pause: Pause,
     // What was put for the cells of the halo as the pause was found.
@@ -69,21 +68,21 @@ impl Model for PlacedRows {
 
     ghost view = { λ rows. record {
       places = map (waited rows.pause.owed) rows.places.items;
-      origins = rows.origins.items;
+      constants = rows.constants.items;
       before = rows.before.items;
       speeds = rows.speeds.items;
       runs = rows.runs.items;
       speed_courses = rows.speed_courses.items;
       speeds_until = rows.speeds_until;
       links = rows.links.items;
-      ties = rows.ties.items;
-      ties_until = rows.ties_until;
+      connectors = rows.connectors.items;
+      connectors_until = rows.connectors_until;
       gates = rows.gates.items;
       pause = rows.pause;
       seen = rows.seen.items;
     } };
 
-    ghost invariant = { λ rows. AreSettled rows.origins.items (map (waited rows.pause.owed) rows.places.items) rows.before.items };
+    ghost invariant = { λ rows. AreSettled rows.constants.items (map (waited rows.pause.owed) rows.places.items) rows.before.items };
 }
 
 // Places and courses are not shown.
@@ -113,29 +112,29 @@ impl PlacedRows {
         requires earlier { All (λ i. i < length earlier.now) region.now.order.now.placed }
         requires bounds { All (λ i. IsRowInBounds net.now t i (row_at rows.now i)) region.now.order.now.placed }
         ensures placed { IfOk result (λ placed. ArePlaced net.now region.now.order.now.placed region.now.halo.now region.now.connectors.now t placed) }
-        ensures rows { IfOk result (λ placed. rows_of placed.origins placed.places ≡ map (row_at rows.now) region.now.order.now.placed) }
+        ensures rows { IfOk result (λ placed. rows_of placed.constants placed.places ≡ map (row_at rows.now) region.now.order.now.placed) }
         ensures before { IfOk result (λ placed. placed.before ≡ map (slice_index earlier.now) region.now.order.now.placed) }
     {
         let _steps = net.steps;
         let cells = region.order.placed();
-        let origins = origins_of(alloc, net, cells)?;
+        let constants = constants_of(alloc, net, cells)?;
         let mut places = places_of(alloc, net, t, cells, rows)?;
         let before = earlier_of(alloc, earlier, cells)?;
         let gates = gates_of(alloc, net, cells)?;
-        let joints = join_places(alloc, net, t, region, &mut places)?;
+        let connections = join_places(alloc, net, t, region, &mut places)?;
         let speeds = speeds_of(alloc, net, cells)?;
         let seen = nothing_put(alloc, region.halo.len())?;
         Ok(PlacedRows {
             places,
-            origins,
+            constants,
             before,
             speeds: speeds.now,
             runs: speeds.runs,
             speed_courses: speeds.courses,
             speeds_until: 0,
-            links: joints.links,
-            ties: joints.ties,
-            ties_until: 0,
+            links: connections.links,
+            connectors: connections.connectors,
+            connectors_until: 0,
             gates,
             pause: Pause::NONE,
             seen,
@@ -144,32 +143,32 @@ impl PlacedRows {
 
     /// How many cells there are.
     pub fn count(&self) -> usize
-        ensures { result ≡ length self.now.origins }
+        ensures { result ≡ length self.now.constants }
     {
-        self.origins.len()
+        self.constants.len()
     }
 
     /// The row of the cell at place `i`.
     pub fn row(&self, i: u32) -> Row
-        requires { i < length self.now.origins }
-        ensures { result ≡ row_at (rows_of self.now.origins self.now.places) i }
+        requires { i < length self.now.constants }
+        ensures { result ≡ row_at (rows_of self.now.constants self.now.places) i }
     {
         let place = waited(&self.places[i as usize], self.pause.owed);
-        self.origins[i as usize].row(&place)
+        self.constants[i as usize].row(&place)
     }
 
     /// What the cell at place `i` holds.
     pub fn held(&self, i: u32) -> u64
-        requires { i < length self.now.origins }
-        ensures { result ≡ occupancy (rows_of self.now.origins self.now.places) i }
+        requires { i < length self.now.constants }
+        ensures { result ≡ occupancy (rows_of self.now.constants self.now.places) i }
     {
         self.places[i as usize].n
     }
 
     /// All that has gone out of it since step 0.
     pub fn gone(&self, i: u32) -> u64
-        requires { i < length self.now.origins }
-        ensures { result ≡ (row_at (rows_of self.now.origins self.now.places) i).gone }
+        requires { i < length self.now.constants }
+        ensures { result ≡ (row_at (rows_of self.now.constants self.now.places) i).gone }
     {
         self.places[i as usize].gone
     }
@@ -187,8 +186,8 @@ impl PlacedRows {
     pub fn step(&mut self, net: &Net, t: u64, cells: &[u32], put: &[Option<u64>])
         requires in_time { t < net.now.steps }
         requires can { CanAdvance net.now cells.now t self.old put.now }
-        ensures rows { (can : CanAdvance net.now cells.now t self.old put.now) → rows_of self.new.origins self.new.places ≡
-            rows_after net.now t can.n cells.now (rows_of self.old.origins self.old.places) }
+        ensures rows { (can : CanAdvance net.now cells.now t self.old put.now) → rows_of self.new.constants self.new.places ≡
+            rows_after net.now t can.n cells.now (rows_of self.old.constants self.old.places) }
         ensures placed { (can : CanAdvance net.now cells.now t self.old put.now) →
             ArePlaced net.now cells.now can.halo can.connectors (t + 1) self.new }
         ensures before { (p : ℕ) → p < length cells.now → slice_index self.new.before p ≡ (place_at self.old.places p).n }
@@ -221,7 +220,7 @@ impl PlacedRows {
     fn wait(&mut self)
         requires few { self.old.pause.owed ≤ MOST_STEPS }
         requires kept { 1 ≤ self.old.pause.owed → (p : ℕ) → p < length self.old.places → slice_index self.old.before p ≡ (place_at self.old.places p).n }
-        requires sums { (p : ℕ) → p < length self.old.origins → (origin_at self.old.origins p).is_exit ≡ false →
+        requires sums { (p : ℕ) → p < length self.old.constants → (constants_at self.old.constants p).is_exit ≡ false →
             (place_at self.old.places p).held + (place_at self.old.places p).n < 2 ^ 64 }
         ensures waits { self.new ≡ record self.old {
           places = map (waited 1) self.old.places;
@@ -271,8 +270,8 @@ impl PlacedRows {
         requires can { CanAdvance net.now cells.now t self.old put.now }
         requires none_owed { self.old.pause.owed ≡ 0 }
         requires awake { self.old.pause.until ≡ 0 }
-        ensures rows { (can : CanAdvance net.now cells.now t self.old put.now) → rows_of self.new.origins self.new.places ≡
-            rows_after net.now t can.n cells.now (rows_of self.old.origins self.old.places) }
+        ensures rows { (can : CanAdvance net.now cells.now t self.old put.now) → rows_of self.new.constants self.new.places ≡
+            rows_after net.now t can.n cells.now (rows_of self.old.constants self.old.places) }
         ensures placed { (can : CanAdvance net.now cells.now t self.old put.now) →
             ArePlaced net.now cells.now can.halo can.connectors (t + 1) self.new }
         ensures before { (p : ℕ) → p < length cells.now → slice_index self.new.before p ≡ (place_at self.old.places p).n }
@@ -287,9 +286,9 @@ impl PlacedRows {
             &mut self.speeds,
             self.speeds_until,
         );
-        self.ties_until = follow(t, &mut self.ties, self.ties_until);
+        self.connectors_until = follow_connectors(t, &mut self.connectors, self.connectors_until);
         sweep(&mut self.places, &self.speeds, &self.runs, &mut self.before);
-        carry_all(t, &self.ties, &self.before, put, &mut self.places);
+        carry_all(t, &self.connectors, &self.before, put, &mut self.places);
         bring_demands(t, &mut self.gates, &mut self.places);
     }
 
@@ -298,12 +297,12 @@ impl PlacedRows {
         requires none_owed { self.old.pause.owed ≡ 0 }
         requires seen { length self.old.seen ≡ length put.now }
         requires there { All (λ link. link.place < length self.old.places) self.old.links }
-        requires cells { All (λ tie. (m : ℕ) → m < 3 → IsWithin (length self.old.places) put.now (ref_at tie.cells m)) self.old.ties }
+        requires cells { All (λ connector. (m : ℕ) → m < 3 → IsWithin (length self.old.places) put.now (ref_at connector.cells m)) self.old.connectors }
         ensures only_pause { self.new ≡ record self.old { pause = self.new.pause; seen = self.new.seen } }
         ensures one_each { length self.new.seen ≡ length put.now }
         ensures none_owed { self.new.pause.owed ≡ 0 }
         ensures idle { (s : ℕ) → s < self.new.pause.until →
-            AreIdle self.old.places self.old.speeds self.old.speeds_until self.old.links self.old.ties self.new.seen self.new.pause.until }
+            AreIdle self.old.places self.old.speeds self.old.speeds_until self.old.links self.old.connectors self.new.seen self.new.pause.until }
     {
         self.pause = Pause::of(
             self.pause.mover,
@@ -311,7 +310,7 @@ impl PlacedRows {
             &self.speeds,
             self.speeds_until,
             &self.links,
-            &self.ties,
+            &self.connectors,
             put,
         );
         note_seen(self.pause.until > 0, &mut self.seen, put);

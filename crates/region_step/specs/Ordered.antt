@@ -17,11 +17,11 @@ pub record OrderedCells : Type 0 where
 -- each cell's place has its row and what was held there a step before
 abbrev pub HavePlaces : OrderedCells → Type 0
 HavePlaces cells = (m : ℕ) → m < length cells.order.places →
-    (slice_index cells.order.places m < length cells.placed.origins) × (slice_index cells.order.places m < length cells.placed.before)
+    (slice_index cells.order.places m < length cells.placed.constants) × (slice_index cells.order.places m < length cells.placed.before)
 
 -- a row for each cell, in the order of the cells
 abbrev pub rows_in : OrderedCells → List Row
-rows_in cells = map (row_at (rows_of cells.placed.origins cells.placed.places)) cells.order.places
+rows_in cells = map (row_at (rows_of cells.placed.constants cells.placed.places)) cells.order.places
 
 -- and what each held a step before
 abbrev pub before_in : OrderedCells → List ℕ

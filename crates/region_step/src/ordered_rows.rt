@@ -85,7 +85,7 @@ impl OrderedRows {
     fn place(&self, i: u32) -> u32
         requires { i < length self.now.order.places }
         ensures place { result ≡ slice_index self.now.order.places i }
-        ensures there { result < length self.now.placed.origins }
+        ensures there { result < length self.now.placed.constants }
         ensures held { result < length self.now.placed.before }
     {
         self.order.places()[i as usize]

@@ -5,8 +5,8 @@ use Rattle.region_body.specs.Carrying.{brought, passed, taken}
 use Rattle.region_body.specs.CellRefs.{held_before}
 use Rattle.region_body.proofs.carry.carry_all.Given as goal
 
-abbrev pub invariant-loop-tie : goal.invariant-loop-tie
-invariant-loop-tie l =
+abbrev pub invariant-loop-connector : goal.invariant-loop-connector
+invariant-loop-connector l =
     (p : ℕ) → p < length l.places → place_at l.places p ≡ passed (place_at l.initial.places p)
-    (sum_by (brought l.t (held_before l.before l.put) p) (take l.tie-index l.ties))
-    (sum_by (taken l.t (held_before l.before l.put) p) (take l.tie-index l.ties))
+    (sum_by (brought l.t (held_before l.before l.put) p) (take l.connector-index l.connectors))
+    (sum_by (taken l.t (held_before l.before l.put) p) (take l.connector-index l.connectors))

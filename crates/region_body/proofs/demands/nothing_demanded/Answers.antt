@@ -5,7 +5,7 @@ use Rattle.std.proofs.lemmas.List.Elements.{All-more}
 use Rattle.courses.specs.Courses.{value_at}
 use Rattle.region_body.specs.Gates.{AreGatesKept, asked}
 use Rattle.region_body.specs.declared.gate.GatePlace.{GatePlace}
-use Rattle.region_body.proofs.Ties.{kept-none, kept-set}
+use Rattle.region_body.proofs.Gates.{kept-none, kept-set}
 use Rattle.region_body.proofs.demands.nothing_demanded.Goals as goal
 
 -- one more of them is asked

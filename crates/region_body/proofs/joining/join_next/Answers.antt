@@ -3,7 +3,7 @@ use Rattle.std.proofs.Common.{◌≡◌, ◌+◌, ℕ, List, refl, sym, ap, ◌�
 use Rattle.signal_plan.specs.Records.{PlanRecords}
 use Rattle.courses.specs.Courses.{IsSteady}
 use Rattle.courses.specs.Links.{LinkValues, most_at, most_between}
-use Rattle.region_body.specs.declared.followed.FollowedLink.{FollowedLink}
+use Rattle.region_body.specs.declared.followed_link.FollowedLink.{FollowedLink}
 use Rattle.region_body.proofs.Joins.{IsJoined, joined-constant, joined-followed}
 use Rattle.region_body.proofs.joining.join_next.Goals as goal
 

@@ -7,6 +7,6 @@ returns-else-room c = λ n held.
     let d : ℕ = c.args.room.most - n in
     let small : c.args.room.den * d < 2 ^ 64 = grind arith in (
       held,
-      ap (λ m. d * m / 2 ^ 64) c.factor_of.ensures
+      ap (λ m. d * m / 2 ^ 64) c.room_factor.ensures
           ∙ factor-exact c.args.room.num c.args.room.den d (2 ^ 64) (omega arith) small,
     )

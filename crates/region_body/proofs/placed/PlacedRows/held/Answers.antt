@@ -12,12 +12,12 @@ use Rattle.region_body.proofs.placed.PlacedRows.held.Goals as goal
 
 pub returns : goal.returns
 returns c =
-    let origins = c.self.inside.origins.items in
+    let constants = c.self.inside.constants.items in
     let places = c.self.inside.places.items in
     let i : ℕ = c.args.i in
-    let within : i < length origins = rw (ap (λ v. length v.origins) c.self.view_is) c.requires in
+    let within : i < length constants = rw (ap (λ v. length v.constants) c.self.view_is) c.requires in
     let now : List Place = map (waited c.self.inside.pause.owed) places in
     let there : i < length places = omega (arith, within, c.self.invariant.one_each, length-waited c.self.inside.pause.owed places) in
     ap (λ place. place.n) (get_or_read places i c.index.result.now there c.index.ensures no_place)
-    ∙ sym (ap (λ row. row.n) (row_at-rows_of origins now i within) ∙ n-waited c.self.inside.pause.owed places i)
-    ∙ ap (λ v. (row_at (rows_of v.origins v.places) i).n) c.self.view_is
+    ∙ sym (ap (λ row. row.n) (row_at-rows_of constants now i within) ∙ n-waited c.self.inside.pause.owed places i)
+    ∙ ap (λ v. (row_at (rows_of v.constants v.places) i).n) c.self.view_is

@@ -23,20 +23,20 @@ speeds-are c = c.deref-2.ensures.value ∙ ap (λ rows. rows.speeds) c.self.view
 until-is : (c : After-deref-4) → c.self.inside.speeds_until ≡ c.args.self.now.speeds_until
 until-is c = ap (λ rows. rows.speeds_until) c.self.view_is
 
-ties-are : (c : After-deref-4) → c.deref-4.result.now ≡ c.args.self.now.ties
-ties-are c = c.deref-4.ensures.value ∙ ap (λ rows. rows.ties) c.self.view_is
+connectors-are : (c : After-deref-4) → c.deref-4.result.now ≡ c.args.self.now.connectors
+connectors-are c = c.deref-4.ensures.value ∙ ap (λ rows. rows.connectors) c.self.view_is
 
 pub of-self-inside-requires-clause-sound : goal.of-self-inside-requires-clause-sound
 of-self-inside-requires-clause-sound c =
     rw c.deref.ensures.value
-    (sound-settled c.self.inside.origins.items c.self.inside.places.items c.self.inside.before.items
+    (sound-settled c.self.inside.constants.items c.self.inside.places.items c.self.inside.before.items
     (rw (ap (λ k. map (waited k) c.self.inside.places.items) (none-owed c) ∙ waited-none c.self.inside.places.items) at c.self.invariant))
 
 pub of-self-inside-requires-clause-there : goal.of-self-inside-requires-clause-there
 of-self-inside-requires-clause-there c = rw (places-are c, links-are c) c.requires.there
 
 pub of-self-inside-requires-clause-cells : goal.of-self-inside-requires-clause-cells
-of-self-inside-requires-clause-cells c = rw (places-are c, ties-are c) c.requires.cells
+of-self-inside-requires-clause-cells c = rw (places-are c, connectors-are c) c.requires.cells
 
 pub returns-clause-idle : goal.returns-clause-idle
 returns-clause-idle c = λ s before.
@@ -45,6 +45,6 @@ returns-clause-idle c = λ s before.
     let lasts : nat_lt 0 until ≡ true = grind (arith, nat_tests, before) in
     let same : c.note_seen.new.seen ≡ c.args.put.now = c.note_seen.ensures.same lasts in
     let long : length c.note_seen.new.seen ≡ c.self.inside.seen.len = c.note_seen.auto.seen ∙ c.deref_mut.ensures.len in
-    subst (λ seen. AreIdle c.args.self.now.places c.args.self.now.speeds c.args.self.now.speeds_until c.args.self.now.links c.args.self.now.ties seen until)
+    subst (λ seen. AreIdle c.args.self.now.places c.args.self.now.speeds c.args.self.now.speeds_until c.args.self.now.links c.args.self.now.connectors seen until)
     (sym (with_items_is c.self.inside.seen c.note_seen.new.seen long ∙ same))
-    ((rw (places-are e, speeds-are e, until-is e, links-are e, ties-are e) at c.of-self-inside.ensures.idle) s before)
+    ((rw (places-are e, speeds-are e, until-is e, links-are e, connectors-are e) at c.of-self-inside.ensures.idle) s before)

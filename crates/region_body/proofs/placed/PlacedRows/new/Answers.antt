@@ -5,7 +5,7 @@ use Rattle.network_file.specs.Network.{IsNetwork}
 use Rattle.flow_model.specs.Limits.{room_at}
 use Rattle.region_body.specs.Places.{place_at}
 use Rattle.connector_flow.specs.Space.{IsSpaceOf}
-use Rattle.region_body.specs.Followed.{IsThere}
+use Rattle.region_body.specs.FollowedLinks.{IsLinkThere}
 use Rattle.region_body.proofs.Firsts.{AreOpened, opened-cell, opened-rows, opened-settled}
 use Rattle.region_body.proofs.Stays.{waited-none}
 use Rattle.region_body.proofs.placed.PlacedRows.new.Goals as goal
@@ -19,7 +19,7 @@ invariant_of-result c =
     let connectors = c.args.region.now.connectors.now in
     let rows = c.args.rows.now in
     let sound : IsNetwork net = subst IsNetwork c.net.view_is c.net.invariant in
-    let origins = c.in_ok-origins.origins.items in
+    let constants = c.in_ok-constants.constants.items in
     let first = c.in_ok-places.places.items in
     let after = c.join_places.new.places in
     let value = c.deref_mut.ensures.value in
@@ -27,21 +27,21 @@ invariant_of-result c =
     let after_is = with_items_is c.in_ok-places.places after (c.join_places.auto.places ∙ c.deref_mut.ensures.len) in
     let only_most : (p : ℕ) → place_at after p ≡ record (place_at first p) { most = (place_at after p).most } =
     rw value at c.join_places.ensures.only_most in
-    let opened : AreOpened net t cells rows origins first after = record {
+    let opened : AreOpened net t cells rows constants first after = record {
       sound = sound;
       in_time = c.requires.in_time;
       there = c.requires.cells.around.there;
       bounds = c.requires.bounds;
-      origin_each = (rw c.placed-cells.ensures at c.in_ok-origins.ensures.one_each);
+      constants_each = (rw c.placed-cells.ensures at c.in_ok-constants.ensures.one_each);
       first_each = (rw c.placed-cells.ensures at c.in_ok-places.ensures.one_each);
       after_each = after_long;
-      origin = (rw c.placed-cells.ensures at c.in_ok-origins.ensures.each);
+      constants_are = (rw c.placed-cells.ensures at c.in_ok-constants.ensures.each);
       first_is = (rw c.placed-cells.ensures at c.in_ok-places.ensures.each);
       only_most = only_most;
     } in
     let before_long : length c.in_ok-before.before.items ≡ length cells =
     ap length (rw c.placed-cells.ensures at c.in_ok-before.ensures) ∙ length-map cells (slice_index c.args.earlier.now) in
-    rw (after_is, waited-none after) (opened-settled net t cells rows origins first after c.in_ok-before.before.items opened before_long)
+    rw (after_is, waited-none after) (opened-settled net t cells rows constants first after c.in_ok-before.before.items opened before_long)
 
 pub returns-clause-placed : goal.returns-clause-placed
 returns-clause-placed c =
@@ -52,7 +52,7 @@ returns-clause-placed c =
     let connectors = c.args.region.now.connectors.now in
     let rows = c.args.rows.now in
     let sound : IsNetwork net = subst IsNetwork c.net.view_is c.net.invariant in
-    let origins = c.in_ok-origins.origins.items in
+    let constants = c.in_ok-constants.constants.items in
     let first = c.in_ok-places.places.items in
     let after = c.join_places.new.places in
     let value = c.deref_mut.ensures.value in
@@ -60,15 +60,15 @@ returns-clause-placed c =
     let after_is = with_items_is c.in_ok-places.places after (c.join_places.auto.places ∙ c.deref_mut.ensures.len) in
     let only_most : (p : ℕ) → place_at after p ≡ record (place_at first p) { most = (place_at after p).most } =
     rw value at c.join_places.ensures.only_most in
-    let opened : AreOpened net t cells rows origins first after = record {
+    let opened : AreOpened net t cells rows constants first after = record {
       sound = sound;
       in_time = c.requires.in_time;
       there = c.requires.cells.around.there;
       bounds = c.requires.bounds;
-      origin_each = (rw c.placed-cells.ensures at c.in_ok-origins.ensures.one_each);
+      constants_each = (rw c.placed-cells.ensures at c.in_ok-constants.ensures.one_each);
       first_each = (rw c.placed-cells.ensures at c.in_ok-places.ensures.one_each);
       after_each = after_long;
-      origin = (rw c.placed-cells.ensures at c.in_ok-origins.ensures.each);
+      constants_are = (rw c.placed-cells.ensures at c.in_ok-constants.ensures.each);
       first_is = (rw c.placed-cells.ensures at c.in_ok-places.ensures.each);
       only_most = only_most;
     } in
@@ -77,27 +77,27 @@ returns-clause-placed c =
     rw (after_is, waited-none after) (record {
       around = c.requires.cells.around;
       known = c.requires.cells.known;
-      tied = record {
+      connected = record {
         distinct = c.requires.cells.around.distinct;
         apart = c.requires.cells.apart;
-        tied = c.in_ok-joints.ensures.tied;
+        each = c.in_ok-connections.ensures.connected;
       };
-      numbers = c.in_ok-joints.ensures.numbers;
+      numbers = c.in_ok-connections.ensures.numbers;
       one_each = after_long ∙ opened.first_each;
-      origin_each = opened.origin_each;
+      constants_each = opened.constants_each;
       before_each = before_long;
-      own = λ p within. (opened-cell net t cells rows origins first after p opened within).1;
+      own = λ p within. (opened-cell net t cells rows constants first after p opened within).1;
       space = λ p within.
           subst (λ space. IsSpaceOf space (room_at net.cells (slice_index cells p))) (sym (ap (λ place. place.space) (only_most p)))
           (opened.first_is p within).space;
-      come = c.in_ok-joints.ensures.come;
+      come = c.in_ok-connections.ensures.come;
       unchanged = λ k d within. omega arith;
       gates = (rw c.placed-cells.ensures at c.in_ok-gates.ensures.places);
       demands = λ k d within. let is = (rw c.placed-cells.ensures at c.in_ok-gates.ensures.demands) k d within in record { demand = is.demand; step = omega (arith, is.step) };
-      links = subst (λ n. All (IsThere n t) c.in_ok-joints.joints.links.items) (sym (after_long ∙ opened.first_each)) c.in_ok-joints.ensures.links;
+      links = subst (λ n. All (IsLinkThere n t) c.in_ok-connections.connections.links.items) (sym (after_long ∙ opened.first_each)) c.in_ok-connections.ensures.links;
       speeds = (rw c.placed-cells.ensures at c.in_ok-speeds.ensures.speeds) t;
       runs = rw c.placed-cells.ensures at c.in_ok-speeds.ensures.runs;
-      followed = c.in_ok-joints.ensures.followed;
+      followed = c.in_ok-connections.ensures.followed;
       pause = record { idle = λ s none. absurd (omega (arith, none)); owed = omega arith; kept = λ some. absurd (omega (arith, some)) };
       seen_each = ap length c.in_ok-seen.ensures ∙ length-replicate (length halo) None;
     })
@@ -111,7 +111,7 @@ returns-clause-rows c =
     let connectors = c.args.region.now.connectors.now in
     let rows = c.args.rows.now in
     let sound : IsNetwork net = subst IsNetwork c.net.view_is c.net.invariant in
-    let origins = c.in_ok-origins.origins.items in
+    let constants = c.in_ok-constants.constants.items in
     let first = c.in_ok-places.places.items in
     let after = c.join_places.new.places in
     let value = c.deref_mut.ensures.value in
@@ -119,18 +119,18 @@ returns-clause-rows c =
     let after_is = with_items_is c.in_ok-places.places after (c.join_places.auto.places ∙ c.deref_mut.ensures.len) in
     let only_most : (p : ℕ) → place_at after p ≡ record (place_at first p) { most = (place_at after p).most } =
     rw value at c.join_places.ensures.only_most in
-    let opened : AreOpened net t cells rows origins first after = record {
+    let opened : AreOpened net t cells rows constants first after = record {
       sound = sound;
       in_time = c.requires.in_time;
       there = c.requires.cells.around.there;
       bounds = c.requires.bounds;
-      origin_each = (rw c.placed-cells.ensures at c.in_ok-origins.ensures.one_each);
+      constants_each = (rw c.placed-cells.ensures at c.in_ok-constants.ensures.one_each);
       first_each = (rw c.placed-cells.ensures at c.in_ok-places.ensures.one_each);
       after_each = after_long;
-      origin = (rw c.placed-cells.ensures at c.in_ok-origins.ensures.each);
+      constants_are = (rw c.placed-cells.ensures at c.in_ok-constants.ensures.each);
       first_is = (rw c.placed-cells.ensures at c.in_ok-places.ensures.each);
       only_most = only_most;
     } in
     let before_long : length c.in_ok-before.before.items ≡ length cells =
     ap length (rw c.placed-cells.ensures at c.in_ok-before.ensures) ∙ length-map cells (slice_index c.args.earlier.now) in
-    rw (after_is, waited-none after) (opened-rows net t cells rows origins first after opened)
+    rw (after_is, waited-none after) (opened-rows net t cells rows constants first after opened)

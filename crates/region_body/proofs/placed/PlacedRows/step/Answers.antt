@@ -24,7 +24,7 @@ waits c =
 
 pub returns-then-waits_through-clause-rows : goal.returns-then-waits_through-clause-rows
 returns-then-waits_through-clause-rows c = λ can.
-    ap (λ cells. rows_of cells.origins cells.places) (waits (goal.at.returns-then-waits_through-clause-rows c).After-wait)
+    ap (λ cells. rows_of cells.constants cells.places) (waits (goal.at.returns-then-waits_through-clause-rows c).After-wait)
     ∙ rows-waited c.args.net.now c.args.cells.now c.args.t c.args.self.now c.args.put.now (subst IsNetwork c.net.view_is c.net.invariant) c.requires.in_time
     (c.waits_through.ensures.waits c.if-waits_through.true) can
 
@@ -62,11 +62,11 @@ pub look-requires-clause-cells : goal.look-requires-clause-cells
 look-requires-clause-cells c = λ k d within.
     let is = placed c c.requires.can in
     refs-there c.args.net.now c.args.cells.now c.requires.can.halo c.take_step.new.self.places c.args.put.now _ is.one_each c.requires.can.bounds.put_each
-    (is.tied.tied k d within)
+    (is.connected.each k d within)
 
 pub returns-else-waits_through-clause-rows : goal.returns-else-waits_through-clause-rows
 returns-else-waits_through-clause-rows c = λ can.
-    ap (λ cells. rows_of cells.origins cells.places) c.look.ensures.only_pause
+    ap (λ cells. rows_of cells.constants cells.places) c.look.ensures.only_pause
     ∙ rows-awake c.args.net.now c.args.cells.now c.args.t c.args.self.now c.wake.new.self c.take_step.new.self c.waits_through.new.self.gates c.args.put.now
     (wakes c.args.self.now c.waits_through.new.self c.wake.new.self c.waits_through.ensures.only_gates c.wake.ensures) c.waits_through.ensures.gates c.take_step.ensures.rows can
 

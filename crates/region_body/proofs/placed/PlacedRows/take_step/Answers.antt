@@ -7,34 +7,34 @@ use Rattle.network_file.specs.Network.{IsNetwork}
 use Rattle.flow_model.proofs.CellLimits.{speed_at-sound}
 use Rattle.region_body.specs.Places.{place_at, swept, with_entered}
 use Rattle.region_body.specs.declared.place.Place.{Place}
-use Rattle.region_body.specs.Carrying.{AreTiesFollowed, passed}
+use Rattle.region_body.specs.Carrying.{AreConnectorsFollowed, passed}
 use Rattle.region_body.specs.Gates.{demand_into}
 use Rattle.region_body.specs.Placed.{CanAdvance, PlacedCells}
 use Rattle.region_body.specs.Waiting.{waited}
 use Rattle.region_body.specs.declared.gate.GatePlace.{GatePlace}
-use Rattle.region_body.specs.declared.tie.Tie.{Tie}
+use Rattle.region_body.specs.declared.followed_connector.FollowedConnector.{FollowedConnector}
 use Rattle.region_body.proofs.Stays.{waited-unowed}
 use Rattle.region_body.proofs.Stepped.{IsSwept, can-carry-each, can-enter-each, can-pass-each, carried_to, ins_of, outs_of, steps-of}
 use Rattle.region_body.specs.Speeds.{at_speeds}
 use Rattle.region_body.proofs.Renewed.{IsFresh, Renewal, fresh-of, sending, sound-sending}
 use Rattle.region_body.proofs.Whole.{AreSteps, can-sweep, gates-there, placed-after, placed-read, rows-after, rows-read, settled-after, sound-fresh}
 use Rattle.region_body.specs.declared.placed.PlacedRows.TheInside.{Inside}
-use Rattle.region_body.proofs.placed.PlacedRows.take_step.Goals.{After-follow-self-inside}
+use Rattle.region_body.proofs.placed.PlacedRows.take_step.Goals.{After-follow_connectors-self-inside}
 use Rattle.region_body.proofs.placed.PlacedRows.take_step.Goals as goal
 
 -- the cells as they were
 abbrev opened : Inside → PlacedCells
 opened rows = record {
   places = rows.places.items;
-  origins = rows.origins.items;
+  constants = rows.constants.items;
   before = rows.before.items;
   speeds = rows.speeds.items;
   runs = rows.runs.items;
   speed_courses = rows.speed_courses.items;
   speeds_until = rows.speeds_until;
   links = rows.links.items;
-  ties = rows.ties.items;
-  ties_until = rows.ties_until;
+  connectors = rows.connectors.items;
+  connectors_until = rows.connectors_until;
   gates = rows.gates.items;
   pause = rows.pause;
   seen = rows.seen.items;
@@ -50,22 +50,22 @@ opened-is rows now is none =
     waited-unowed rows.pause.owed rows.places.items (ap (λ cells. cells.pause.owed) is ∙ none) in
     rw same at is
 
--- once the links and the ties are followed
+-- once the links and the other connectors are followed
 
-abbrev Can : After-follow-self-inside → Type 0
+abbrev Can : After-follow_connectors-self-inside → Type 0
 Can c = CanAdvance c.args.net.now c.args.cells.now c.args.t (opened c.self.inside) c.args.put.now
 
-can-step : (c : After-follow-self-inside) → Can c
+can-step : (c : After-follow_connectors-self-inside) → Can c
 can-step c = subst (λ from. CanAdvance c.args.net.now c.args.cells.now c.args.t from c.args.put.now) (sym (opened-is c.self.inside c.args.self.now c.self.view_is c.requires.none_owed)) c.requires.can
 
-none-owed : (c : After-follow-self-inside) → c.self.inside.pause.owed ≡ 0
+none-owed : (c : After-follow_connectors-self-inside) → c.self.inside.pause.owed ≡ 0
 none-owed c = ap (λ cells. cells.pause.owed) c.self.view_is ∙ c.requires.none_owed
 
-sound : (c : After-follow-self-inside) → IsNetwork c.args.net.now
+sound : (c : After-follow_connectors-self-inside) → IsNetwork c.args.net.now
 sound c = subst IsNetwork c.net.view_is c.net.invariant
 
 -- what is renewed for the step
-abbrev renewed : After-follow-self-inside → Renewal
+abbrev renewed : After-follow_connectors-self-inside → Renewal
 renewed c = record {
   places = c.refresh.new.places;
   links = c.refresh.new.links;
@@ -74,7 +74,7 @@ renewed c = record {
   until = c.follow_speeds-self-inside.result;
 }
 
-fresh : (c : After-follow-self-inside) (can : Can c) → IsFresh c.args.net.now c.args.cells.now can.connectors c.args.t (opened c.self.inside) (renewed c)
+fresh : (c : After-follow_connectors-self-inside) (can : Can c) → IsFresh c.args.net.now c.args.cells.now can.connectors c.args.t (opened c.self.inside) (renewed c)
 fresh c can = fresh-of c.args.net.now c.args.cells.now can.halo can.connectors c.args.t (opened c.self.inside) (renewed c) (sound c) can.laid (record {
   long = c.refresh.auto.places ∙ ap length c.deref_mut-2.ensures.value;
   there = rw c.deref_mut-2.ensures.value at c.refresh.ensures.there;
@@ -88,24 +88,24 @@ fresh c can = fresh-of c.args.net.now c.args.cells.now can.halo can.connectors c
   others = rw (c.deref_mut-3.ensures.value, c.deref_mut-4.ensures.value) at c.follow_speeds-self-inside.ensures.others;
 })
 
-fresh-is : (c : After-follow-self-inside) → (with_items c.self.inside.places c.refresh.new.places).items ≡ c.refresh.new.places
+fresh-is : (c : After-follow_connectors-self-inside) → (with_items c.self.inside.places c.refresh.new.places).items ≡ c.refresh.new.places
 fresh-is c = with_items_is c.self.inside.places c.refresh.new.places (c.refresh.auto.places ∙ c.deref_mut-2.ensures.len)
 
-speeds-are : (c : After-follow-self-inside) → (with_items c.self.inside.speeds c.follow_speeds-self-inside.new.speeds).items ≡ c.follow_speeds-self-inside.new.speeds
+speeds-are : (c : After-follow_connectors-self-inside) → (with_items c.self.inside.speeds c.follow_speeds-self-inside.new.speeds).items ≡ c.follow_speeds-self-inside.new.speeds
 speeds-are c = with_items_is c.self.inside.speeds c.follow_speeds-self-inside.new.speeds (c.follow_speeds-self-inside.auto.speeds ∙ c.deref_mut-4.ensures.len)
 
-followed : (c : After-follow-self-inside) → AreTiesFollowed c.args.t (opened c.self.inside).ties c.follow-self-inside.new.ties
-followed c = rw c.deref_mut-5.ensures.value at c.follow-self-inside.ensures.ties
+followed : (c : After-follow_connectors-self-inside) → AreConnectorsFollowed c.args.t (opened c.self.inside).connectors c.follow_connectors-self-inside.new.connectors
+followed c = rw c.deref_mut-5.ensures.value at c.follow_connectors-self-inside.ensures.connectors
 
-ties-are : (c : After-follow-self-inside) → (with_items c.self.inside.ties c.follow-self-inside.new.ties).items ≡ c.follow-self-inside.new.ties
-ties-are c = with_items_is c.self.inside.ties c.follow-self-inside.new.ties (c.follow-self-inside.auto.ties ∙ c.deref_mut-5.ensures.len)
+connectors-are : (c : After-follow_connectors-self-inside) → (with_items c.self.inside.connectors c.follow_connectors-self-inside.new.connectors).items ≡ c.follow_connectors-self-inside.new.connectors
+connectors-are c = with_items_is c.self.inside.connectors c.follow_connectors-self-inside.new.connectors (c.follow_connectors-self-inside.auto.connectors ∙ c.deref_mut-5.ensures.len)
 
 -- once the places are swept
-abbrev Swept : (c : After-follow-self-inside) → Can c → (places : List Place) → (before : List ℕ) → Type 0
+abbrev Swept : (c : After-follow_connectors-self-inside) → Can c → (places : List Place) → (before : List ℕ) → Type 0
 Swept c can places before =
-    IsSwept c.args.net.now c.args.cells.now can.halo can.connectors c.args.t can.n (opened c.self.inside) c.args.put.now (renewed c) c.follow-self-inside.new.ties places before
+    IsSwept c.args.net.now c.args.cells.now can.halo can.connectors c.args.t can.n (opened c.self.inside) c.args.put.now (renewed c) c.follow_connectors-self-inside.new.connectors places before
 
-is-swept : (c : After-follow-self-inside) (can : Can c) (places : List Place) (speeds : List (ℕ × ℕ)) (swept_places : List Place) (before : List ℕ) → places ≡ c.refresh.new.places →
+is-swept : (c : After-follow_connectors-self-inside) (can : Can c) (places : List Place) (speeds : List (ℕ × ℕ)) (swept_places : List Place) (before : List ℕ) → places ≡ c.refresh.new.places →
     speeds ≡ c.follow_speeds-self-inside.new.speeds →
     length swept_places ≡ length places → ((p : ℕ) → p < length places → place_at swept_places p ≡ swept places (at_speeds places speeds) p) →
     ((p : ℕ) → p < length places → slice_index before p ≡ (place_at places p).n) → length before ≡ length (opened c.self.inside).before → Swept c can swept_places before
@@ -123,7 +123,7 @@ is-swept c can places speeds swept_places before same quick long each noted note
   noted = rw same at noted;
 }
 
-swept-is : (c : After-follow-self-inside) (places swept_places : List Place) → places ≡ c.refresh.new.places → length swept_places ≡ length places →
+swept-is : (c : After-follow_connectors-self-inside) (places swept_places : List Place) → places ≡ c.refresh.new.places → length swept_places ≡ length places →
     (with_items (with_items c.self.inside.places c.refresh.new.places) swept_places).items ≡ swept_places
 swept-is c places swept_places same long =
     with_items_is (with_items c.self.inside.places c.refresh.new.places) swept_places (long ∙ ap length same ∙ c.refresh.auto.places ∙ c.deref_mut-2.ensures.len)
@@ -136,7 +136,7 @@ follow_speeds-self-inside-requires-clause-speeds c =
 
 pub sweep-requires-clause-sound : goal.sweep-requires-clause-sound
 sweep-requires-clause-sound c =
-    let e : After-follow-self-inside = (goal.at.sweep-requires-clause-sound c).After-follow-self-inside in
+    let e : After-follow_connectors-self-inside = (goal.at.sweep-requires-clause-sound c).After-follow_connectors-self-inside in
     let can = can-step e in
     let new = fresh e can in
     rw (c.deref_mut-6.ensures.value ∙ fresh-is e)
@@ -146,7 +146,7 @@ sweep-requires-clause-sound c =
 
 pub sweep-requires-clause-can : goal.sweep-requires-clause-can
 sweep-requires-clause-can c =
-    let e : After-follow-self-inside = (goal.at.sweep-requires-clause-can c).After-follow-self-inside in
+    let e : After-follow_connectors-self-inside = (goal.at.sweep-requires-clause-can c).After-follow_connectors-self-inside in
     let can = can-step e in
     rw (c.deref_mut-6.ensures.value ∙ fresh-is e, c.deref.ensures.value ∙ speeds-are e, c.deref-2.ensures.value)
     (can-sweep c.args.net.now c.args.t can.n c.args.cells.now can.halo can.connectors (opened c.self.inside) c.args.put.now (renewed e) (sound e) c.requires.in_time
@@ -154,35 +154,35 @@ sweep-requires-clause-can c =
 
 pub carry_all-requires-clause-each : goal.carry_all-requires-clause-each
 carry_all-requires-clause-each c =
-    let e : After-follow-self-inside = (goal.at.carry_all-requires-clause-each c).After-follow-self-inside in
+    let e : After-follow_connectors-self-inside = (goal.at.carry_all-requires-clause-each c).After-follow_connectors-self-inside in
     let can = can-step e in
     let places = c.sweep.new.places in
     let before = c.sweep.new.before in
-    let ties : List Tie = c.follow-self-inside.new.ties in
+    let others : List FollowedConnector = c.follow_connectors-self-inside.new.connectors in
     let same : c.deref_mut-6.result.now ≡ c.refresh.new.places = c.deref_mut-6.ensures.value ∙ fresh-is e in
     let is = is-swept e can c.deref_mut-6.result.now c.deref.result.now places before same (c.deref.ensures.value ∙ speeds-are e) c.sweep.auto.places c.sweep.ensures.places c.sweep.ensures.before (c.sweep.auto.before ∙ ap length c.deref_mut-7.ensures.value) in
-    rw (c.deref_mut-8.ensures.value ∙ swept-is e c.deref_mut-6.result.now places same c.sweep.auto.places, c.deref-3.ensures.value ∙ ties-are e)
-    (λ k d within. can-carry-each c.args.net.now c.args.cells.now can.halo can.connectors c.args.t can.n (opened c.self.inside) c.args.put.now (renewed e) ties places before k d is within)
+    rw (c.deref_mut-8.ensures.value ∙ swept-is e c.deref_mut-6.result.now places same c.sweep.auto.places, c.deref-3.ensures.value ∙ connectors-are e)
+    (λ k d within. can-carry-each c.args.net.now c.args.cells.now can.halo can.connectors c.args.t can.n (opened c.self.inside) c.args.put.now (renewed e) others places before k d is within)
 
 pub carry_all-requires-clause-can : goal.carry_all-requires-clause-can
 carry_all-requires-clause-can c =
-    let e : After-follow-self-inside = (goal.at.carry_all-requires-clause-can c).After-follow-self-inside in
+    let e : After-follow_connectors-self-inside = (goal.at.carry_all-requires-clause-can c).After-follow_connectors-self-inside in
     let can = can-step e in
     let places = c.sweep.new.places in
     let before = c.sweep.new.before in
-    let ties : List Tie = c.follow-self-inside.new.ties in
+    let others : List FollowedConnector = c.follow_connectors-self-inside.new.connectors in
     let same : c.deref_mut-6.result.now ≡ c.refresh.new.places = c.deref_mut-6.ensures.value ∙ fresh-is e in
     let is = is-swept e can c.deref_mut-6.result.now c.deref.result.now places before same (c.deref.ensures.value ∙ speeds-are e) c.sweep.auto.places c.sweep.ensures.places c.sweep.ensures.before (c.sweep.auto.before ∙ ap length c.deref_mut-7.ensures.value) in
     rw (
       c.deref_mut-8.ensures.value ∙ swept-is e c.deref_mut-6.result.now places same c.sweep.auto.places,
-      c.deref-3.ensures.value ∙ ties-are e,
+      c.deref-3.ensures.value ∙ connectors-are e,
       c.deref-4.ensures.value ∙ with_items_is c.self.inside.before before (c.sweep.auto.before ∙ c.deref_mut-7.ensures.len),
     )
-    (λ p within. can-pass-each c.args.net.now c.args.cells.now can.halo can.connectors c.args.t can.n (opened c.self.inside) c.args.put.now (renewed e) ties places before p is within)
+    (λ p within. can-pass-each c.args.net.now c.args.cells.now can.halo can.connectors c.args.t can.n (opened c.self.inside) c.args.put.now (renewed e) others places before p is within)
 
--- once the ties have carried
+-- once the other connectors have carried
 
-carried-is : (c : After-follow-self-inside) (places swept_places before_carry carried : List Place) → places ≡ c.refresh.new.places → length swept_places ≡ length places →
+carried-is : (c : After-follow_connectors-self-inside) (places swept_places before_carry carried : List Place) → places ≡ c.refresh.new.places → length swept_places ≡ length places →
     before_carry ≡ swept_places → length carried ≡ length before_carry →
     (with_items (with_items (with_items c.self.inside.places c.refresh.new.places) swept_places) carried).items ≡ carried
 carried-is c places swept_places before_carry carried same long same_swept long_carried =
@@ -191,7 +191,7 @@ carried-is c places swept_places before_carry carried same long same_swept long_
 
 pub bring_demands-requires-clause-there : goal.bring_demands-requires-clause-there
 bring_demands-requires-clause-there c =
-    let e : After-follow-self-inside = (goal.at.bring_demands-requires-clause-there c).After-follow-self-inside in
+    let e : After-follow_connectors-self-inside = (goal.at.bring_demands-requires-clause-there c).After-follow_connectors-self-inside in
     let can = can-step e in
     let new = fresh e can in
     let places = c.sweep.new.places in
@@ -205,49 +205,49 @@ bring_demands-requires-clause-there c =
 
 pub bring_demands-requires-clause-fits : goal.bring_demands-requires-clause-fits
 bring_demands-requires-clause-fits c =
-    let e : After-follow-self-inside = (goal.at.bring_demands-requires-clause-fits c).After-follow-self-inside in
+    let e : After-follow_connectors-self-inside = (goal.at.bring_demands-requires-clause-fits c).After-follow_connectors-self-inside in
     let can = can-step e in
     let places = c.sweep.new.places in
     let before = c.sweep.new.before in
-    let ties : List Tie = c.follow-self-inside.new.ties in
+    let others : List FollowedConnector = c.follow_connectors-self-inside.new.connectors in
     let same : c.deref_mut-6.result.now ≡ c.refresh.new.places = c.deref_mut-6.ensures.value ∙ fresh-is e in
     let is = is-swept e can c.deref_mut-6.result.now c.deref.result.now places before same (c.deref.ensures.value ∙ speeds-are e) c.sweep.auto.places c.sweep.ensures.places c.sweep.ensures.before (c.sweep.auto.before ∙ ap length c.deref_mut-7.ensures.value) in
     let swept_is : c.deref_mut-8.result.now ≡ places = c.deref_mut-8.ensures.value ∙ swept-is e c.deref_mut-6.result.now places same c.sweep.auto.places in
     let carried_is : c.deref_mut-10.result.now ≡ c.carry_all.new.places =
     c.deref_mut-10.ensures.value ∙ carried-is e c.deref_mut-6.result.now places c.deref_mut-8.result.now c.carry_all.new.places same c.sweep.auto.places swept_is c.carry_all.auto.places in
     let passes : (p : ℕ) → p < length places → place_at c.carry_all.new.places p ≡
-    passed (place_at places p) (carried_to c.args.t before c.args.put.now ties p) (outs_of c.args.t before c.args.put.now ties p) =
-    rw (swept_is, c.deref-3.ensures.value ∙ ties-are e, c.deref-4.ensures.value ∙ with_items_is c.self.inside.before before (c.sweep.auto.before ∙ c.deref_mut-7.ensures.len)) at c.carry_all.ensures in
+    passed (place_at places p) (carried_to c.args.t before c.args.put.now others p) (outs_of c.args.t before c.args.put.now others p) =
+    rw (swept_is, c.deref-3.ensures.value ∙ connectors-are e, c.deref-4.ensures.value ∙ with_items_is c.self.inside.before before (c.sweep.auto.before ∙ c.deref_mut-7.ensures.len)) at c.carry_all.ensures in
     rw (carried_is, c.deref_mut-9.ensures.value)
-    (λ p within. can-enter-each c.args.net.now c.args.cells.now can.halo can.connectors c.args.t can.n (opened c.self.inside) c.args.put.now (renewed e) ties places before c.carry_all.new.places p is (c.carry_all.auto.places ∙ ap length swept_is) passes within)
+    (λ p within. can-enter-each c.args.net.now c.args.cells.now can.halo can.connectors c.args.t can.n (opened c.self.inside) c.args.put.now (renewed e) others places before c.carry_all.new.places p is (c.carry_all.auto.places ∙ ap length swept_is) passes within)
 
 -- once the gates have demanded
 
-taken-steps : (c : After-follow-self-inside) (can : Can c) (speeds : List (ℕ × ℕ)) (places swept_places before_carry carried before_demands after : List Place) (before own : List ℕ) (ties : List Tie) →
+taken-steps : (c : After-follow_connectors-self-inside) (can : Can c) (speeds : List (ℕ × ℕ)) (places swept_places before_carry carried before_demands after : List Place) (before own : List ℕ) (others : List FollowedConnector) →
     (gates : List GatePlace) → speeds ≡ c.follow_speeds-self-inside.new.speeds → places ≡ c.refresh.new.places → length swept_places ≡ length places → ((p : ℕ) → p < length places → place_at swept_places p ≡ swept places (at_speeds places speeds) p) →
-    ((p : ℕ) → p < length places → slice_index before p ≡ (place_at places p).n) → length before ≡ length (opened c.self.inside).before → before_carry ≡ swept_places → ties ≡ c.follow-self-inside.new.ties → own ≡ before →
+    ((p : ℕ) → p < length places → slice_index before p ≡ (place_at places p).n) → length before ≡ length (opened c.self.inside).before → before_carry ≡ swept_places → others ≡ c.follow_connectors-self-inside.new.connectors → own ≡ before →
     length carried ≡ length before_carry →
     ((p : ℕ) → p < length before_carry → place_at carried p ≡
-    passed (place_at before_carry p) (carried_to c.args.t own c.args.put.now ties p) (outs_of c.args.t own c.args.put.now ties p)) →
+    passed (place_at before_carry p) (carried_to c.args.t own c.args.put.now others p) (outs_of c.args.t own c.args.put.now others p)) →
     before_demands ≡ carried → gates ≡ (opened c.self.inside).gates → length after ≡ length before_demands →
     ((p : ℕ) → p < length before_demands → place_at after p ≡ with_entered (place_at before_demands p) (sum_by (demand_into c.args.t p) gates)) →
-    AreSteps c.args.net.now c.args.cells.now can.halo can.connectors c.args.t can.n (opened c.self.inside) (renewed c) (outs_of c.args.t before c.args.put.now c.follow-self-inside.new.ties) (carried_to c.args.t before c.args.put.now c.follow-self-inside.new.ties)
-    (ins_of c.args.t before c.args.put.now c.follow-self-inside.new.ties (opened c.self.inside)) after
-taken-steps c can speeds places swept_places before_carry carried before_demands after before own ties gates quick same long each noted noted_long swept_same ties_same own_same long_carried passes
+    AreSteps c.args.net.now c.args.cells.now can.halo can.connectors c.args.t can.n (opened c.self.inside) (renewed c) (outs_of c.args.t before c.args.put.now c.follow_connectors-self-inside.new.connectors) (carried_to c.args.t before c.args.put.now c.follow_connectors-self-inside.new.connectors)
+    (ins_of c.args.t before c.args.put.now c.follow_connectors-self-inside.new.connectors (opened c.self.inside)) after
+taken-steps c can speeds places swept_places before_carry carried before_demands after before own others gates quick same long each noted noted_long swept_same others_same own_same long_carried passes
     carried_same gates_same long_after enters =
     let is = is-swept c can places speeds swept_places before same quick long each noted noted_long in
-    steps-of c.args.net.now c.args.cells.now can.halo can.connectors c.args.t can.n (opened c.self.inside) c.args.put.now (renewed c) c.follow-self-inside.new.ties swept_places before carried after is (long_carried ∙ ap length swept_same) (long_after ∙ ap length carried_same)
-    (rw (swept_same, ties_same, own_same) at passes) (rw (carried_same, gates_same) at enters)
+    steps-of c.args.net.now c.args.cells.now can.halo can.connectors c.args.t can.n (opened c.self.inside) c.args.put.now (renewed c) c.follow_connectors-self-inside.new.connectors swept_places before carried after is (long_carried ∙ ap length swept_same) (long_after ∙ ap length carried_same)
+    (rw (swept_same, others_same, own_same) at passes) (rw (carried_same, gates_same) at enters)
 
 pub returns-clause-rows : goal.returns-clause-rows
 returns-clause-rows c =
-    let e : After-follow-self-inside = (goal.at.returns-clause-rows c).After-follow-self-inside in
+    let e : After-follow_connectors-self-inside = (goal.at.returns-clause-rows c).After-follow_connectors-self-inside in
     let first = c.refresh.new.places in
     let places = c.sweep.new.places in
     let noted = c.sweep.new.before in
     let carried = c.carry_all.new.places in
     let after = c.bring_demands.new.places in
-    let ties : List Tie = c.follow-self-inside.new.ties in
+    let others : List FollowedConnector = c.follow_connectors-self-inside.new.connectors in
     let same : c.deref_mut-6.result.now ≡ first = c.deref_mut-6.ensures.value ∙ fresh-is e in
     let swept_is : c.deref_mut-8.result.now ≡ places = c.deref_mut-8.ensures.value ∙ swept-is e c.deref_mut-6.result.now places same c.sweep.auto.places in
     let carried_is : c.deref_mut-10.result.now ≡ carried =
@@ -259,24 +259,24 @@ returns-clause-rows c =
     ∙ c.refresh.auto.places ∙ c.deref_mut-2.ensures.len) in
     let steps = λ (can : Can e).
     taken-steps e can c.deref.result.now c.deref_mut-6.result.now places c.deref_mut-8.result.now carried c.deref_mut-10.result.now after noted c.deref-4.result.now c.deref-3.result.now
-    c.deref_mut-9.result.now (c.deref.ensures.value ∙ speeds-are e) same c.sweep.auto.places c.sweep.ensures.places c.sweep.ensures.before (c.sweep.auto.before ∙ ap length c.deref_mut-7.ensures.value) swept_is (c.deref-3.ensures.value ∙ ties-are e)
+    c.deref_mut-9.result.now (c.deref.ensures.value ∙ speeds-are e) same c.sweep.auto.places c.sweep.ensures.places c.sweep.ensures.before (c.sweep.auto.before ∙ ap length c.deref_mut-7.ensures.value) swept_is (c.deref-3.ensures.value ∙ connectors-are e)
     (c.deref-4.ensures.value ∙ before_is) c.carry_all.auto.places c.carry_all.ensures carried_is c.deref_mut-9.ensures.value c.bring_demands.auto.places
     c.bring_demands.ensures.places in
     rw (after_is, waited-unowed c.self.inside.pause.owed after (none-owed e)) (
-    rows-read c.args.net.now c.args.cells.now c.args.t (opened c.self.inside) c.args.self.now c.args.put.now c.self.inside.origins.items after (opened-is c.self.inside c.args.self.now c.self.view_is c.requires.none_owed)
+    rows-read c.args.net.now c.args.cells.now c.args.t (opened c.self.inside) c.args.self.now c.args.put.now c.self.inside.constants.items after (opened-is c.self.inside c.args.self.now c.self.view_is c.requires.none_owed)
     (λ can.
-    rows-after c.args.net.now c.args.cells.now can.halo can.connectors c.args.t can.n (opened c.self.inside) (renewed e) (outs_of c.args.t noted c.args.put.now ties) (carried_to c.args.t noted c.args.put.now ties) (ins_of c.args.t noted c.args.put.now ties (opened c.self.inside)) after
+    rows-after c.args.net.now c.args.cells.now can.halo can.connectors c.args.t can.n (opened c.self.inside) (renewed e) (outs_of c.args.t noted c.args.put.now others) (carried_to c.args.t noted c.args.put.now others) (ins_of c.args.t noted c.args.put.now others (opened c.self.inside)) after
     c.args.put.now (sound e) c.requires.in_time can.laid can.bounds can.seen (steps can)))
 
 pub returns-clause-placed : goal.returns-clause-placed
 returns-clause-placed c =
-    let e : After-follow-self-inside = (goal.at.returns-clause-placed c).After-follow-self-inside in
+    let e : After-follow_connectors-self-inside = (goal.at.returns-clause-placed c).After-follow_connectors-self-inside in
     let first = c.refresh.new.places in
     let places = c.sweep.new.places in
     let noted = c.sweep.new.before in
     let carried = c.carry_all.new.places in
     let after = c.bring_demands.new.places in
-    let ties : List Tie = c.follow-self-inside.new.ties in
+    let others : List FollowedConnector = c.follow_connectors-self-inside.new.connectors in
     let same : c.deref_mut-6.result.now ≡ first = c.deref_mut-6.ensures.value ∙ fresh-is e in
     let swept_is : c.deref_mut-8.result.now ≡ places = c.deref_mut-8.ensures.value ∙ swept-is e c.deref_mut-6.result.now places same c.sweep.auto.places in
     let carried_is : c.deref_mut-10.result.now ≡ carried =
@@ -288,7 +288,7 @@ returns-clause-placed c =
     ∙ c.refresh.auto.places ∙ c.deref_mut-2.ensures.len) in
     let steps = λ (can : Can e).
     taken-steps e can c.deref.result.now c.deref_mut-6.result.now places c.deref_mut-8.result.now carried c.deref_mut-10.result.now after noted c.deref-4.result.now c.deref-3.result.now
-    c.deref_mut-9.result.now (c.deref.ensures.value ∙ speeds-are e) same c.sweep.auto.places c.sweep.ensures.places c.sweep.ensures.before (c.sweep.auto.before ∙ ap length c.deref_mut-7.ensures.value) swept_is (c.deref-3.ensures.value ∙ ties-are e)
+    c.deref_mut-9.result.now (c.deref.ensures.value ∙ speeds-are e) same c.sweep.auto.places c.sweep.ensures.places c.sweep.ensures.before (c.sweep.auto.before ∙ ap length c.deref_mut-7.ensures.value) swept_is (c.deref-3.ensures.value ∙ connectors-are e)
     (c.deref-4.ensures.value ∙ before_is) c.carry_all.auto.places c.carry_all.ensures carried_is c.deref_mut-9.ensures.value c.bring_demands.auto.places
     c.bring_demands.ensures.places in
     let placed : PlacedCells = opened c.self.inside in
@@ -304,20 +304,20 @@ returns-clause-placed c =
       with_items_is c.self.inside.speeds c.follow_speeds-self-inside.new.speeds (c.follow_speeds-self-inside.auto.speeds ∙ c.deref_mut-4.ensures.len),
       with_items_is c.self.inside.speed_courses c.follow_speeds-self-inside.new.courses (c.follow_speeds-self-inside.auto.courses ∙ c.deref_mut-3.ensures.len),
       before_is,
-      ties-are e,
+      connectors-are e,
       with_items_is c.self.inside.gates gates (c.bring_demands.auto.gates ∙ c.deref_mut-9.ensures.len),
     )
     (placed-read c.args.net.now c.args.cells.now c.args.t placed c.args.self.now c.args.put.now _ (opened-is c.self.inside c.args.self.now c.self.view_is c.requires.none_owed)
     (λ can.
-    placed-after c.args.net.now c.args.cells.now can.halo can.connectors c.args.t can.n placed (renewed e) (outs_of c.args.t noted c.args.put.now ties) (carried_to c.args.t noted c.args.put.now ties) (ins_of c.args.t noted c.args.put.now ties placed) after
-    noted ties c.follow-self-inside.result gates pause c.self.inside.seen.items c.args.put.now (sound e) c.requires.in_time can.laid can.bounds can.seen (steps can) noted_long
-    (followed e) c.follow-self-inside.ensures.until (rw c.deref_mut-9.ensures.value at c.bring_demands.ensures.gates)
+    placed-after c.args.net.now c.args.cells.now can.halo can.connectors c.args.t can.n placed (renewed e) (outs_of c.args.t noted c.args.put.now others) (carried_to c.args.t noted c.args.put.now others) (ins_of c.args.t noted c.args.put.now others placed) after
+    noted others c.follow_connectors-self-inside.result gates pause c.self.inside.seen.items c.args.put.now (sound e) c.requires.in_time can.laid can.bounds can.seen (steps can) noted_long
+    (followed e) c.follow_connectors-self-inside.ensures.until (rw c.deref_mut-9.ensures.value at c.bring_demands.ensures.gates)
     (record { idle = λ s less. absurd (omega (arith, less, until)); owed = omega (arith, none); kept = λ some. absurd (omega (arith, none, some)) })
     can.laid.seen_each))
 
 pub returns-clause-before : goal.returns-clause-before
 returns-clause-before c = λ p within.
-    let e : After-follow-self-inside = (goal.at.returns-clause-before c).After-follow-self-inside in
+    let e : After-follow_connectors-self-inside = (goal.at.returns-clause-before c).After-follow_connectors-self-inside in
     let can = can-step e in
     let new = fresh e can in
     let places : c.deref_mut-6.result.now ≡ c.refresh.new.places = c.deref_mut-6.ensures.value ∙ fresh-is e in
@@ -330,13 +330,13 @@ returns-clause-before c = λ p within.
 
 pub invariant_of-self : goal.invariant_of-self
 invariant_of-self c =
-    let e : After-follow-self-inside = (goal.at.invariant_of-self c).After-follow-self-inside in
+    let e : After-follow_connectors-self-inside = (goal.at.invariant_of-self c).After-follow_connectors-self-inside in
     let first = c.refresh.new.places in
     let places = c.sweep.new.places in
     let noted = c.sweep.new.before in
     let carried = c.carry_all.new.places in
     let after = c.bring_demands.new.places in
-    let ties : List Tie = c.follow-self-inside.new.ties in
+    let others : List FollowedConnector = c.follow_connectors-self-inside.new.connectors in
     let same : c.deref_mut-6.result.now ≡ first = c.deref_mut-6.ensures.value ∙ fresh-is e in
     let swept_is : c.deref_mut-8.result.now ≡ places = c.deref_mut-8.ensures.value ∙ swept-is e c.deref_mut-6.result.now places same c.sweep.auto.places in
     let carried_is : c.deref_mut-10.result.now ≡ carried =
@@ -348,11 +348,11 @@ invariant_of-self c =
     ∙ c.refresh.auto.places ∙ c.deref_mut-2.ensures.len) in
     let steps = λ (can : Can e).
     taken-steps e can c.deref.result.now c.deref_mut-6.result.now places c.deref_mut-8.result.now carried c.deref_mut-10.result.now after noted c.deref-4.result.now c.deref-3.result.now
-    c.deref_mut-9.result.now (c.deref.ensures.value ∙ speeds-are e) same c.sweep.auto.places c.sweep.ensures.places c.sweep.ensures.before (c.sweep.auto.before ∙ ap length c.deref_mut-7.ensures.value) swept_is (c.deref-3.ensures.value ∙ ties-are e)
+    c.deref_mut-9.result.now (c.deref.ensures.value ∙ speeds-are e) same c.sweep.auto.places c.sweep.ensures.places c.sweep.ensures.before (c.sweep.auto.before ∙ ap length c.deref_mut-7.ensures.value) swept_is (c.deref-3.ensures.value ∙ connectors-are e)
     (c.deref-4.ensures.value ∙ before_is) c.carry_all.auto.places c.carry_all.ensures carried_is c.deref_mut-9.ensures.value c.bring_demands.auto.places
     c.bring_demands.ensures.places in
     let can = can-step e in
     let noted_long : length noted ≡ length (opened c.self.inside).before = c.sweep.auto.before ∙ ap length c.deref_mut-7.ensures.value in
     rw (after_is, waited-unowed c.self.inside.pause.owed after (none-owed e), before_is)
-    (settled-after c.args.net.now c.args.cells.now can.halo can.connectors c.args.t can.n (opened c.self.inside) (renewed e) (outs_of c.args.t noted c.args.put.now ties) (carried_to c.args.t noted c.args.put.now ties) (ins_of c.args.t noted c.args.put.now ties (opened c.self.inside)) after
+    (settled-after c.args.net.now c.args.cells.now can.halo can.connectors c.args.t can.n (opened c.self.inside) (renewed e) (outs_of c.args.t noted c.args.put.now others) (carried_to c.args.t noted c.args.put.now others) (ins_of c.args.t noted c.args.put.now others (opened c.self.inside)) after
     noted c.args.put.now (sound e) c.requires.in_time can.laid can.bounds can.seen (steps can) noted_long)

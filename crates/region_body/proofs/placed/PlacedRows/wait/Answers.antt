@@ -12,10 +12,10 @@ invariant_of-self c =
     let is = c.note_first.ensures.only_before in
     let places : map (waited inside.pause.owed) inside.places.items ≡ old.places =
     ap (λ rows. rows.places) c.self.view_is ∙ ap (λ rows. rows.places) is in
-    let origins : inside.origins.items ≡ old.origins = ap (λ rows. rows.origins) c.self.view_is ∙ ap (λ rows. rows.origins) is in
+    let constants : inside.constants.items ≡ old.constants = ap (λ rows. rows.constants) c.self.view_is ∙ ap (λ rows. rows.constants) is in
     rw (← waited-more inside.pause.owed inside.places.items)
-    (settled-waits inside.origins.items (map (waited inside.pause.owed) inside.places.items) inside.before.items c.self.invariant
-    (rw (origins, places) c.requires.sums))
+    (settled-waits inside.constants.items (map (waited inside.pause.owed) inside.places.items) inside.before.items c.self.invariant
+    (rw (constants, places) c.requires.sums))
 
 pub returns-clause-waits : goal.returns-clause-waits
 returns-clause-waits c =

@@ -22,4 +22,4 @@ pub invariant_of-self : goal.invariant_of-self
 invariant_of-self c = λ m within.
     let done = returns-clause-ordered c c.requires.can in
     let there = done.order.there m (omega (arith, done.order.place_each, within)) in
-    (omega (arith, there, done.order.long, done.placed.origin_each), omega (arith, there, done.order.long, done.placed.before_each))
+    (omega (arith, there, done.order.long, done.placed.constants_each), omega (arith, there, done.order.long, done.placed.before_each))

@@ -6,14 +6,14 @@ use flow_model::Row;
 
 /// What never changes of a cell, and makes its row of its place.
 #[derive(Clone, Copy)]
-pub(crate) struct Origin {
+pub(crate) struct CellConstants {
     /// What it holds at step 0.
     pub(crate) first: u64,
     /// Whether it is an exit.
     pub(crate) is_exit: bool,
 }
 
-impl Origin {
+impl CellConstants {
     /// The row of the cell at its place.
     pub(crate) fn row(self, place: &Place) -> Row
         requires { IsSettled self place.now }

@@ -4,10 +4,10 @@ use Rattle.region_body.specs.Places.{place_at}
 use Rattle.region_body.specs.declared.place.Place.{Place}
 use Rattle.courses.specs.Courses.{IsSteady}
 use Rattle.courses.specs.Links.{most_at}
-use Rattle.region_body.specs.declared.followed.FollowedLink.{FollowedLink}
+use Rattle.region_body.specs.declared.followed_link.FollowedLink.{FollowedLink}
 
 -- the link's place is there, and the link was followed to no step past t
-pub record IsThere (places t : ℕ) (link : FollowedLink) : Type 0 where
+pub record IsLinkThere (places t : ℕ) (link : FollowedLink) : Type 0 where
   pub place : link.place < places
   pub step : link.course.step ≤ t
 

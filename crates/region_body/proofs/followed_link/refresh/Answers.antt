@@ -2,12 +2,12 @@ use Rattle.std.specs.Prelude.{◌⊎◌}
 use Rattle.std.proofs.Common.{◌≡◌, ◌<◌, ℕ, length, ap, subst, arith}
 use Rattle.std.proofs.Math.ListN.{get_or, length-set}
 use Rattle.std.proofs.lemmas.List.{get_or_default}
-use Rattle.region_body.specs.Followed.{IsChanged, IsUnchanged}
+use Rattle.region_body.specs.FollowedLinks.{IsChanged, IsUnchanged}
 use Rattle.region_body.specs.Places.{place_at}
 use Rattle.region_body.specs.declared.place.Place.{Place}
-use Rattle.region_body.specs.declared.followed.FollowedLink.{FollowedLink}
+use Rattle.region_body.specs.declared.followed_link.FollowedLink.{FollowedLink}
 use Rattle.region_body.proofs.Following.{refreshed-all, refreshed-more, refreshed-none, there-more}
-use Rattle.region_body.proofs.followed.refresh.Goals as goal
+use Rattle.region_body.proofs.followed_link.refresh.Goals as goal
 
 pub loop-m-init : goal.loop-m-init
 loop-m-init c = record {

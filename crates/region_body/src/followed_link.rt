@@ -1,7 +1,7 @@
 ghost use Rattle.std.specs.Prelude.{◌≡◌, ◌≤◌, ◌<◌, ◌⊎◌, ℕ, All, length};
 ghost use Rattle.region_body.specs.Places.{place_at};
 ghost use Rattle.courses.specs.Links.{most_at};
-ghost use Rattle.region_body.specs.Followed.{AreFollowed, IsChanged, IsThere, IsUnchanged};
+ghost use Rattle.region_body.specs.FollowedLinks.{AreFollowed, IsChanged, IsLinkThere, IsUnchanged};
 
 use crate::place::Place;
 use courses::LinkCourse;
@@ -20,9 +20,9 @@ pub(crate) struct FollowedLink {
 
 /// Writes the changes that are due at step `t`: each place then has the most that its link carries in that step.
 pub(crate) fn refresh(links: &mut [FollowedLink], places: &mut [Place], t: u64)
-    requires there { All (IsThere (length places.old) t) links.old }
+    requires there { All (IsLinkThere (length places.old) t) links.old }
     requires in_time { t ≤ MOST_STEPS }
-    ensures there { All (IsThere (length places.old) t) links.new }
+    ensures there { All (IsLinkThere (length places.old) t) links.new }
 
     // Where the links follow `most`, each place has the most of step t, and the links still follow it.
     ensures most { (most : ℕ → ℕ → ℕ) → AreFollowed most places.old links.old t → (p : ℕ) → p < length places.old →
