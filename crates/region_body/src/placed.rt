@@ -24,8 +24,8 @@ use crate::opening::{earlier_of, gates_of, nothing_put, origins_of, places_of};
 use crate::origin::Origin;
 use crate::pause::{Pause, hold_the_same, note_seen};
 use crate::place::Place;
-use crate::run::Run;
 use crate::speed_factor::SpeedFactor;
+use crate::speed_zone::SpeedZone;
 use crate::speeds::speeds_of;
 use crate::sweep::sweep;
 use crate::tie::Tie;
@@ -47,7 +47,7 @@ pub struct PlacedRows {
     // The speed at each place, none where no cell has speed records; where places lie whose cells have some; and how these
     // change, none before a step.
     speeds: Vec<SpeedFactor>,
-    runs: Vec<Run>,
+    zones: Vec<SpeedZone>,
     speed_courses: Vec<FollowedSpeed>,
     speeds_until: u64,
     links: Vec<FollowedLink>,
@@ -73,7 +73,7 @@ impl Model for PlacedRows {
       origins = rows.origins.items;
       before = rows.before.items;
       speeds = rows.speeds.items;
-      runs = rows.runs.items;
+      zones = rows.zones.items;
       speed_courses = rows.speed_courses.items;
       speeds_until = rows.speeds_until;
       links = rows.links.items;
@@ -131,7 +131,7 @@ impl PlacedRows {
             origins,
             before,
             speeds: speeds.now,
-            runs: speeds.runs,
+            zones: speeds.zones,
             speed_courses: speeds.courses,
             speeds_until: 0,
             links: joints.links,
@@ -289,7 +289,12 @@ impl PlacedRows {
             self.speeds_until,
         );
         self.ties_until = follow(t, &mut self.ties, self.ties_until);
-        sweep(&mut self.places, &self.speeds, &self.runs, &mut self.before);
+        sweep(
+            &mut self.places,
+            &self.speeds,
+            &self.zones,
+            &mut self.before,
+        );
         let held = Held {
             own: &self.before,
             put,
