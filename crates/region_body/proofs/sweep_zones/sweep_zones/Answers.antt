@@ -1,4 +1,4 @@
-use Rattle.std.proofs.Common.{◌≡◌, ◌+◌, ℕ, refl, sym, ap, ◌∙◌, add-one, length, arith}
+use Rattle.std.proofs.Common.{◌≡◌, refl, sym, ap, ◌∙◌, add-one, length, arith}
 use Rattle.region_body.specs.SpeedZones.{end_before}
 use Rattle.region_body.proofs.AtSpeeds.{few-slow, free-before, free-behind}
 use Rattle.region_body.proofs.Swept.{swept-none}
