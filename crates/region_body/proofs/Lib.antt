@@ -2,7 +2,7 @@ pub mod Neighbours
 pub mod Sets
 pub mod AtSpeeds
 pub mod SpeedCourses
-pub mod RunsMade
+pub mod ZonesMade
 pub mod Swept
 pub mod LinkFlows
 pub mod Following

@@ -31,7 +31,7 @@ use Rattle.region_body.specs.Moves.{ArePartsOf, IsScene, IsSeen, in_by, out_by}
 use Rattle.region_body.specs.Pausing.{AreIdle, IsIdleUntil}
 use Rattle.region_body.specs.Placed.{ArePlacesInBounds, ArePlaced, CanAdvance, PlacedCells, WaitThrough}
 use Rattle.region_body.specs.Rows.{IsOf, constants_at, row_of, rows_of}
-use Rattle.region_body.specs.Speeds.{at_speeds, slowed_place, speed_of}
+use Rattle.region_body.specs.Speeds.{at_speeds, slowed_place, ratio_at}
 use Rattle.region_body.specs.Waiting.{waited}
 use Rattle.region_body.specs.declared.gate.GatePlace.{GatePlace}
 use Rattle.region_body.specs.declared.pause.Pause.{Pause}
@@ -118,7 +118,7 @@ limited-still : (net : Network) (cells connectors : List ℕ) (t until speeds_un
 limited-still net cells connectors t until speeds_until places speeds links others put p followed idle before within =
     let place : Place = place_at places p in
     let now = limited net cells connectors t places in
-    let speed : ℕ × ℕ = speed_of speeds p in
+    let speed : ℕ × ℕ = ratio_at speeds p in
     let is : link_out (at_speeds now speeds) p ≡ carried (slowed_place (record place { most = most_out net cells connectors p t }) speed) (place_at places (p + 1)) =
     link_out-at_speeds now speeds p (omega (arith, within, length-limited net cells connectors t places))
     ∙ limited-next net cells connectors t places (p + 1) (slowed_place (place_at now p) speed)
@@ -264,8 +264,8 @@ next-waited places p place = elim (cases_lt p (length places)) [
 out-waited : (places : List Place) (speeds : List (ℕ × ℕ)) (p : ℕ) → p < length places → link_out (at_speeds (map (waited 1) places) speeds) p ≡ link_out (at_speeds places speeds) p
 out-waited places speeds p within =
     link_out-at_speeds (map (waited 1) places) speeds p (omega (arith, within, length-waited 1 places))
-    ∙ next-waited places (p + 1) (slowed_place (place_at (map (waited 1) places) p) (speed_of speeds p))
-    ∙ ap (λ one. carried (slowed_place one (speed_of speeds p)) (place_at places (p + 1))) (place_at-waited 1 places p within ∙ waited-same 1 (place_at places p))
+    ∙ next-waited places (p + 1) (slowed_place (place_at (map (waited 1) places) p) (ratio_at speeds p))
+    ∙ ap (λ one. carried (slowed_place one (ratio_at speeds p)) (place_at places (p + 1))) (place_at-waited 1 places p within ∙ waited-same 1 (place_at places p))
     ∙ sym (link_out-at_speeds places speeds p within)
 
 idle-waited : (places : List Place) (speeds : List (ℕ × ℕ)) (speeds_until : ℕ) (links : List FollowedLink) (others : List FollowedConnector) (put : List (Option ℕ)) (until : ℕ) →
@@ -324,7 +324,7 @@ placed-waited net cells t placed put gates before sound in_time wait kept long n
           let there = has.links k d within in
           record { place = omega (arith, there.place, length-waited 1 placed.places); step = omega (arith, there.step) };
       speeds = speeds-later net cells placed.speed_courses placed.speeds t placed.speeds_until has.speeds;
-      runs = has.runs;
+      zones = has.zones;
       followed = followed-waited (most_out net cells can.connectors) placed.places placed.links t has.followed;
       pause = record {
         idle = λ s within. idle-waited placed.places placed.speeds placed.speeds_until placed.links placed.connectors placed.seen placed.pause.until (has.pause.idle s within);
@@ -368,7 +368,7 @@ placed-awake net cells halo connectors t placed gates has kept = record {
   demands = demands-kept net cells t placed.gates gates kept has.demands;
   links = has.links;
   speeds = has.speeds;
-  runs = has.runs;
+  zones = has.zones;
   followed = has.followed;
   pause = record { idle = λ s none. absurd (omega (arith, none)); owed = omega arith; kept = λ some. absurd (omega (arith, some)) };
   seen_each = has.seen_each;
@@ -421,7 +421,7 @@ placed-paused net cells halo connectors t placed pause seen has none seen_each i
   demands = has.demands;
   links = has.links;
   speeds = has.speeds;
-  runs = has.runs;
+  zones = has.zones;
   followed = has.followed;
   pause = record { idle = idle; owed = omega (arith, none); kept = λ some. absurd (omega (arith, none, some)) };
   seen_each = seen_each;

@@ -14,7 +14,7 @@ use Rattle.region_body.specs.Chains.{AreAround, is_joined, most_out}
 use Rattle.region_body.specs.FollowedLinks.{AreFollowed, IsLinkThere}
 use Rattle.region_body.specs.declared.followed_link.FollowedLink.{FollowedLink}
 use Rattle.region_body.specs.Placed.{ArePlaced, PlacedCells}
-use Rattle.region_body.specs.Speeds.{AreSpeedsInForce, AreSpeedsAsBefore, AreSpeedsOf, IsSpeedThere, at_speeds, cell_speed, is_listed, is_slow, slowed_place, speed_of}
+use Rattle.region_body.specs.Speeds.{AreSpeedsInForce, AreSpeedsAsBefore, AreSpeedsOf, IsSpeedThere, at_speeds, cell_speed, is_listed, is_slow, slowed_place, ratio_at}
 use Rattle.region_body.specs.declared.followed_speed.FollowedSpeed.{FollowedSpeed}
 use Rattle.region_body.proofs.AtSpeeds.{at_speeds-at, length-at_speeds}
 use Rattle.region_body.proofs.Extending.{most-by}
@@ -30,7 +30,7 @@ first-false false b is free = cc
 
 -- a cell out of which a link leads sends at its speed
 speed-now : (net : Network) (cells : List ℕ) (courses : List FollowedSpeed) (speeds : List (ℕ × ℕ)) (t until p : ℕ) → AreSpeedsOf net cells courses speeds t until →
-    t < until → p < length cells → is_exit_at net.cells (slice_index cells p) ≡ false → speed_of speeds p ≡ cell_speed net cells p t
+    t < until → p < length cells → is_exit_at net.cells (slice_index cells p) ≡ false → ratio_at speeds p ≡ cell_speed net cells p t
 speed-now net cells courses speeds t until p are before within sends = elim (cases_Bool (is_listed courses p)) [
   | inl listed ↦ are.in_force p listed t (omega arith) before
   | inr other ↦
@@ -46,7 +46,7 @@ speed-now net cells courses speeds t until p are before within sends = elim (cas
 
 -- a place whose cell isn't slow has its road's own speed
 pub speed-free : (net : Network) (cells : List ℕ) (courses : List FollowedSpeed) (speeds : List (ℕ × ℕ)) (t until p : ℕ) → AreSpeedsOf net cells courses speeds t until →
-    is_slow net cells p ≡ false → speed_of speeds p ≡ (1, 1)
+    is_slow net cells p ≡ false → ratio_at speeds p ≡ (1, 1)
 speed-free net cells courses speeds t until p are free = elim (cases_Bool (is_listed courses p)) [
   | inl listed ↦
       let at = listed-at courses p listed in
@@ -54,20 +54,13 @@ speed-free net cells courses speeds t until p are free = elim (cases_Bool (is_li
   | inr other ↦ are.others p other
 ]
 
--- a place whose cell is slow is there
-pub speed-there : (net : Network) (cells : List ℕ) (courses : List FollowedSpeed) (speeds : List (ℕ × ℕ)) (t until p : ℕ) → AreSpeedsOf net cells courses speeds t until →
-    p < length cells → is_slow net cells p ≡ true → p < length speeds
-speed-there net cells courses speeds t until p are within slow =
-    let at = listed-at courses p (are.whole p within slow) in
-    rw at.2 at ((are.there at.0 no_speed at.1).place)
-
 -- what is sent out of place p within limits, of what comes to the end of its cell
 abbrev pub sent_now : Network → (cells connectors : List ℕ) → (t p n : ℕ) → ℕ
 sent_now net cells connectors t p n = min (most_out net cells connectors p t) (arriving (speed_at net.plan (slice_index cells p) t) n)
 
 pub sends-now : (net : Network) (cells connectors : List ℕ) (courses : List FollowedSpeed) (speeds : List (ℕ × ℕ)) (t until p n : ℕ) → IsNetwork net →
     AreAround net cells connectors → AreSpeedsOf net cells courses speeds t until → t < until → p < length cells →
-    min (min (most_out net cells connectors p t) (arriving (speed_of speeds p) n)) n ≡ sent_now net cells connectors t p n
+    min (min (most_out net cells connectors p t) (arriving (ratio_at speeds p) n)) n ≡ sent_now net cells connectors t p n
 sends-now net cells connectors courses speeds t until p n sound around are before within = elim (cases_Bool (is_joined net cells connectors p)) [
   | inl joined ↦
       let few = arriving-le (cell_speed net cells p t) n (speed_at-sound net (slice_index cells p) t sound) in
@@ -114,7 +107,7 @@ pub record IsRenewal (t : ℕ) (placed : PlacedCells) (new : Renewal) : Type 0 w
   pub later : t < new.until
   pub in_force : (speed : ℕ → ℕ → ℕ × ℕ) → All (λ one. (s : ℕ) → value_at one.course s ≡ speed one.place s) placed.speed_courses →
       AreSpeedsInForce speed placed.speed_courses placed.speeds t placed.speeds_until → AreSpeedsInForce speed placed.speed_courses new.speeds t new.until
-  pub others : (p : ℕ) → is_listed placed.speed_courses p ≡ false → speed_of new.speeds p ≡ speed_of placed.speeds p
+  pub others : (p : ℕ) → is_listed placed.speed_courses p ≡ false → ratio_at new.speeds p ≡ ratio_at placed.speeds p
 
 -- places, links and speeds in step t
 pub record IsFresh (net : Network) (cells connectors : List ℕ) (t : ℕ) (placed : PlacedCells) (new : Renewal) : Type 0 where
@@ -131,6 +124,7 @@ speeds-renewed net cells t placed new has is =
     let same = λ (p : ℕ). listed-same placed.speed_courses new.courses p is.as_before in
     record {
       there = rw is.speeds_long is.speeds_there;
+      known = λ p within. rw is.speeds_long (has.known p (rw is.speeds_long at within));
       values = λ k d within s.
           let inside : k < length placed.speed_courses = omega (arith, within, is.as_before.long) in
           let one = is.as_before.each k d inside in
@@ -152,12 +146,12 @@ renewed-of net cells connectors t until placed places courses speeds sound aroun
     record {
       long = length-at_speeds places speeds ∙ long;
       only_most = λ p within.
-          let slowed : Place = slowed_place (place_at places p) (speed_of speeds p) in
+          let slowed : Place = slowed_place (place_at places p) (ratio_at speeds p) in
           at p within ∙ ap {B = Place} (λ (place : Place). record place { most = slowed.most }) (most p within)
           ∙ ap {B = Place} (λ m. record (place_at placed.places p) { most = m }) (sym (ap (λ place. place.most) (at p within)));
       sends = λ p within.
           let n : ℕ = (place_at placed.places p).n in
-          ap (λ place. min place.most n) (at p within) ∙ ap (λ place. min (slowed_place place (speed_of speeds p)).most n) (most p within)
+          ap (λ place. min place.most n) (at p within) ∙ ap (λ place. min (slowed_place place (ratio_at speeds p)).most n) (most p within)
           ∙ sends-now net cells connectors courses speeds t until p n sound around are before (omega (arith, within, one_each));
     }
 
@@ -183,6 +177,7 @@ pub speeds-later : (net : Network) (cells : List ℕ) (courses : List FollowedSp
     AreSpeedsOf net cells courses speeds (t + 1) until
 speeds-later net cells courses speeds t until are = record {
   there = λ k d within. record { place = (are.there k d within).place; step = omega (arith, (are.there k d within).step) };
+  known = are.known;
   values = are.values;
   slow = are.slow;
   whole = are.whole;

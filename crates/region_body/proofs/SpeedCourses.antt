@@ -6,7 +6,7 @@ use Rattle.std.proofs.lemmas.List.{get_or_default, get_or-set_other, get_or-set_
 use Rattle.std.proofs.lemmas.List.Folds.{Any-from_list_any, list_any-append, list_any_more}
 use Rattle.signal_plan.specs.Speeds.{IsSpeed}
 use Rattle.courses.specs.Courses.{Course, value_at}
-use Rattle.region_body.specs.Speeds.{AreSpeedsInForce, AreSpeedsAsBefore, IsSpeedAsBefore, IsSpeedThere, is_listed, speed_of}
+use Rattle.region_body.specs.Speeds.{AreSpeedsInForce, AreSpeedsAsBefore, IsSpeedAsBefore, IsSpeedThere, is_listed, ratio_at}
 use Rattle.region_body.specs.declared.followed_speed.FollowedSpeed.{FollowedSpeed}
 
 -- one speed more
@@ -38,7 +38,7 @@ pub record AreWritten (first_courses courses : List FollowedSpeed) (first speeds
   pub later : t < until
   pub in_force : (speed : ℕ → ℕ → ℕ × ℕ) → All (λ one. (s : ℕ) → value_at one.course s ≡ speed one.place s) first_courses →
       AreSpeedsInForce speed (take j first_courses) speeds t until
-  pub others : (p : ℕ) → is_listed (take j first_courses) p ≡ false → speed_of speeds p ≡ speed_of first p
+  pub others : (p : ℕ) → is_listed (take j first_courses) p ≡ false → ratio_at speeds p ≡ ratio_at first p
 
 -- one more
 pub record IsWritten (courses : List FollowedSpeed) (speeds : List (ℕ × ℕ)) (t until j : ℕ) (old new : FollowedSpeed) (after : ℕ × ℕ) : Type 0 where
@@ -61,7 +61,7 @@ written-more first_courses courses first speeds t until sooner j old new after w
     let now = set speeds q after in
     let own : FollowedSpeed = get_or first_courses j old in
     let since : IsSpeedAsBefore own old = subst (IsSpeedAsBefore own) (is.read old) (was.as_before.each j old inside) in
-    let at : speed_of now q ≡ after = get_or-set_same speeds q after (1, 1) is.there in
+    let at : ratio_at now q ≡ after = get_or-set_same speeds q after (1, 1) is.there in
     record {
       there = λ k d lt. elim (cases_eq k j) [
         | inl same ↦

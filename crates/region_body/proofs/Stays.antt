@@ -68,14 +68,6 @@ n-waited steps places p = elim (cases_lt p (length places)) [
       ∙ sym (ap (λ place. place.n) (place_at-past places p (omega (arith, past))))
 ]
 
-pub most-waited : (steps : ℕ) (places : List Place) (p : ℕ) → (place_at (map (waited steps) places) p).most ≡ (place_at places p).most
-most-waited steps places p = elim (cases_lt p (length places)) [
-  | inl within ↦ ap (λ place. place.most) (place_at-waited steps places p within ∙ waited-same steps (place_at places p))
-  | inr past ↦
-      ap (λ place. place.most) (place_at-past (map (waited steps) places) p (omega (arith, past, length-waited steps places)))
-      ∙ sym (ap (λ place. place.most) (place_at-past places p (omega (arith, past))))
-]
-
 pub gone-waited : (steps : ℕ) (places : List Place) (p : ℕ) → p < length places → (place_at (map (waited steps) places) p).gone ≡ (place_at places p).gone
 gone-waited steps places p within = ap (λ place. place.gone) (place_at-waited steps places p within ∙ waited-same steps (place_at places p))
 

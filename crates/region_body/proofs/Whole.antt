@@ -37,7 +37,7 @@ use Rattle.region_body.specs.Rows.{AreSettled, IsOf, constants_at, row_of, rows_
 use Rattle.region_body.specs.declared.cell_constants.CellConstants.{CellConstants}
 use Rattle.region_body.specs.declared.followed_connector.FollowedConnector.{FollowedConnector}
 use Rattle.region_body.proofs.Flowing.{HasPlaces, in-gate, in-total, odd_sum, out-total}
-use Rattle.region_body.proofs.Renewed.{AreKept, AreRenewed, IsFresh, Renewal, sending, speed-free, speed-there, speeds-later}
+use Rattle.region_body.proofs.Renewed.{AreKept, AreRenewed, IsFresh, Renewal, sending, speed-free, speeds-later}
 use Rattle.region_body.proofs.Stepping.{row-stepped, stepped-is_of}
 use Rattle.region_body.proofs.FollowedConnectors.{come-followed, connected-followed, numbers-followed}
 use Rattle.region_body.proofs.Gates.{demands-asked, demands-into, gates-asked}
@@ -227,17 +227,17 @@ second-false true false is = refl
 second-false true true is = cc
 second-false false b is = cc
 
--- so they can be swept, by their speeds and runs
+-- so they can be swept, by their speeds and zones
 pub can-sweep : (net : Network) (t : ℕ) (n : ℕ → ℕ) (cells halo connectors : List ℕ) (placed : PlacedCells) (put : List (Option ℕ)) (new : Renewal) →
     IsNetwork net → t < net.steps → ArePlaced net cells halo connectors t placed → ArePlacesInBounds net cells halo t placed put →
-    IsSeen n cells halo placed.places put → IsFresh net cells connectors t placed new → CanSweep new.places new.speeds placed.runs
+    IsSeen n cells halo placed.places put → IsFresh net cells connectors t placed new → CanSweep new.places new.speeds placed.zones
 can-sweep net t n cells halo connectors placed put new sound before has bounds seen now =
     let same : length new.places ≡ length cells = now.kept.long ∙ has.one_each in
     record {
       slow = is_slow net cells;
-      laid = rw same has.runs;
+      laid = rw same has.zones;
       free = λ p within free. speed-free net cells new.courses new.speeds t new.until p now.speeds free;
-      known = λ p within slow. speed-there net cells new.courses new.speeds t new.until p now.speeds (omega (arith, within, same)) slow;
+      known = λ p within. rw same (now.speeds.known p within);
       few = λ p within slow.
           let i : ℕ = slice_index cells p in
           let is = ready net t n cells halo connectors placed put p sound before has bounds seen (omega (arith, within, same)) in
@@ -458,7 +458,7 @@ pub placed-after : (net : Network) (cells halo connectors : List ℕ) (t : ℕ) 
       constants = placed.constants;
       before = before_list;
       speeds = new.speeds;
-      runs = placed.runs;
+      zones = placed.zones;
       speed_courses = new.courses;
       speeds_until = new.until;
       links = new.links;
@@ -496,7 +496,7 @@ placed-after net cells halo connectors t n placed new outs carried ins after bef
           let there = steps.now.links_there k d within in
           record { place = omega (arith, there.place, steps.long_after); step = omega (arith, there.step) };
       speeds = speeds-later net cells new.courses new.speeds t new.until steps.now.speeds;
-      runs = has.runs;
+      zones = has.zones;
       followed = follows-later (most_out net cells connectors) new.places after new.links t steps.long_after
           (λ p there. ap (λ place. place.most) (steps.stepped_each p there)) steps.now.followed;
       pause = pausing;

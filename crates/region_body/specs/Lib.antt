@@ -1,5 +1,5 @@
 pub mod Places
-pub mod Runs
+pub mod SpeedZones
 pub mod Speeds
 pub mod Sweeping
 pub mod Moving

@@ -1,5 +1,5 @@
 -- The rows of some cells, kept as places side by side.
-use Rattle.std.specs.Prelude.{◌≡◌, ◌≢◌, ℕ, ◌-◌, ◌^◌, ◌<◌, ◌≤◌, All, List, Option, length, map, slice_index}
+use Rattle.std.specs.Prelude.{◌≡◌, ◌≢◌, ℕ, ◌-◌, ◌/◌, ◌^◌, ◌<◌, ◌≤◌, All, List, Option, length, map, slice_index}
 use Rattle.std.specs.List.{filter, range_with_len}
 use Rattle.std.specs.List.Sorted.{IsStrictlyIncreasing}
 use Rattle.network_file.specs.Connectors.{connector_at}
@@ -20,10 +20,10 @@ use Rattle.region_body.specs.Joining.{AreKnown}
 use Rattle.region_body.specs.Moves.{AreConnected, IsSeen}
 use Rattle.region_body.specs.Pausing.{IsPauseOf}
 use Rattle.region_body.specs.Rows.{IsOf, constants_at, rows_of}
-use Rattle.region_body.specs.Runs.{AreRuns}
+use Rattle.region_body.specs.SpeedZones.{AreZones, is_slow_four}
 use Rattle.region_body.specs.Speeds.{AreSpeedsOf, is_slow}
 use Rattle.region_body.specs.declared.followed_speed.FollowedSpeed.{FollowedSpeed}
-use Rattle.region_body.specs.declared.run.Run.{Run}
+use Rattle.region_body.specs.declared.speed_zone.SpeedZone.{SpeedZone}
 use Rattle.region_body.specs.Gates.{IsGateOf}
 use Rattle.region_body.specs.declared.gate.GatePlace.{GatePlace}
 use Rattle.region_body.specs.declared.cell_constants.CellConstants.{CellConstants}
@@ -37,7 +37,7 @@ pub record PlacedCells : Type 0 where
   pub before : List ℕ
   -- the speed at each place, where places lie whose cells have speed records, and how these change, none before a step
   pub speeds : List (ℕ × ℕ)
-  pub runs : List Run
+  pub zones : List SpeedZone
   pub speed_courses : List FollowedSpeed
   pub speeds_until : ℕ
   -- the links to neighbours whose most changes, and the other connectors, none of which changes before a step
@@ -67,7 +67,7 @@ pub record ArePlaced (net : Network) (cells halo connectors : List ℕ) (t : ℕ
   pub demands : All (IsGateOf net cells t) placed.gates
   pub links : All (IsLinkThere (length placed.places) t) placed.links
   pub speeds : AreSpeedsOf net cells placed.speed_courses placed.speeds t placed.speeds_until
-  pub runs : AreRuns (is_slow net cells) (length cells - 1) placed.runs
+  pub zones : AreZones (is_slow_four (is_slow net cells)) ((length cells - 1) / 4) placed.zones
   pub followed : AreFollowed (most_out net cells connectors) placed.places placed.links t
   pub pause : IsPauseOf placed.places placed.before placed.speeds placed.speeds_until placed.links placed.connectors placed.seen t placed.pause
   pub seen_each : length placed.seen ≡ length halo

@@ -1,19 +1,19 @@
 -- The speeds in a region's cells, by their places.
-use Rattle.std.specs.Prelude.{◌≡◌, ◌==◌, ◌&&◌, ℕ, ◌-◌, ◌^◌, ◌<◌, ◌≤◌, All, Bool, true, false, List, length, map, min, not, slice_index, slice_index_or}
+use Rattle.std.specs.Prelude.{◌≡◌, ◌==◌, ◌&&◌, ℕ, ◌-◌, ◌/◌, ◌^◌, ◌<◌, ◌≤◌, All, Bool, true, false, List, length, map, min, not, slice_index, slice_index_or}
 use Rattle.std.specs.List.{list_any, range_with_len}
 use Rattle.signal_plan.specs.Speeds.{arriving, has_speeds, speed_at}
 use Rattle.network_file.specs.Cells.{is_exit_at}
 use Rattle.network_file.specs.Network.{Network}
 use Rattle.courses.specs.Courses.{value_at}
 use Rattle.region_body.specs.Places.{place_at}
-use Rattle.region_body.specs.Runs.{AreRuns}
+use Rattle.region_body.specs.SpeedZones.{AreZones, is_slow_four}
 use Rattle.region_body.specs.declared.followed_speed.FollowedSpeed.{FollowedSpeed}
 use Rattle.region_body.specs.declared.place.Place.{Place}
-use Rattle.region_body.specs.declared.run.Run.{Run}
+use Rattle.region_body.specs.declared.speed_zone.SpeedZone.{SpeedZone}
 
 -- the speed at place p as a ratio to the road's, 1/1 behind the last of a list
-abbrev pub speed_of : (speeds : List (ℕ × ℕ)) → (p : ℕ) → ℕ × ℕ
-speed_of speeds p = slice_index_or speeds p (1, 1)
+abbrev pub ratio_at : (speeds : List (ℕ × ℕ)) → (p : ℕ) → ℕ × ℕ
+ratio_at speeds p = slice_index_or speeds p (1, 1)
 
 -- a place out of which goes at most what comes to the end of its cell at this speed
 abbrev pub slowed_place : Place → (speed : ℕ × ℕ) → Place
@@ -21,14 +21,15 @@ slowed_place place speed = record place { most = min place.most (arriving speed 
 
 -- these places at these speeds
 unfoldable pub at_speeds : List Place → (speeds : List (ℕ × ℕ)) → List Place
-at_speeds places speeds = map (λ p. slowed_place (place_at places p) (speed_of speeds p)) (range_with_len 0 (length places))
+at_speeds places speeds = map (λ p. slowed_place (place_at places p) (ratio_at speeds p)) (range_with_len 0 (length places))
 
--- runs of places outside of which, but for the last place, all speeds are 1/1, and inside of which the factors of the speeds will do
-pub record CanSweep (places : List Place) (speeds : List (ℕ × ℕ)) (runs : List Run) : Type 0 where
+-- zones outside of which in the whole fours before the last place all speeds are 1/1; of each place its speed is known, or of none,
+-- and where it isn't 1/1 its factor will do
+pub record CanSweep (places : List Place) (speeds : List (ℕ × ℕ)) (zones : List SpeedZone) : Type 0 where
   pub slow : ℕ → Bool
-  pub laid : AreRuns slow (length places - 1) runs
-  pub free : (p : ℕ) → p < length places → slow p ≡ false → speed_of speeds p ≡ (1, 1)
-  pub known : (p : ℕ) → p < length places → slow p ≡ true → p < length speeds
+  pub laid : AreZones (is_slow_four slow) ((length places - 1) / 4) zones
+  pub free : (p : ℕ) → p < length places → slow p ≡ false → ratio_at speeds p ≡ (1, 1)
+  pub known : (p : ℕ) → p < length speeds → length places ≤ length speeds
   pub few : (p : ℕ) → p < length places → slow p ≡ true → (place_at places p).n < 2 ^ 53
 
 -- one of these speeds is that of the place
@@ -53,7 +54,7 @@ pub record AreSpeedsAsBefore (old new : List FollowedSpeed) : Type 0 where
 -- from step t until another each of these places has its speed
 abbrev pub AreSpeedsInForce : (speed : ℕ → ℕ → ℕ × ℕ) → (courses : List FollowedSpeed) → (speeds : List (ℕ × ℕ)) → (t until : ℕ) → Type 0
 AreSpeedsInForce speed courses speeds t until =
-    (p : ℕ) → is_listed courses p ≡ true → (s : ℕ) → t ≤ s → s < until → speed_of speeds p ≡ speed p s
+    (p : ℕ) → is_listed courses p ≡ true → (s : ℕ) → t ≤ s → s < until → ratio_at speeds p ≡ speed p s
 
 -- the speed in the p-th of these cells in step t
 abbrev pub cell_speed : Network → (cells : List ℕ) → (p t : ℕ) → ℕ × ℕ
@@ -70,11 +71,12 @@ pub record IsSpeedOpened (net : Network) (cells : List ℕ) (one : FollowedSpeed
   pub step : one.course.step ≡ 0
   pub value : (s : ℕ) → value_at one.course s ≡ cell_speed net cells one.place s
 
--- the speeds of these cells as step t begins, which are followed where a cell has speed records, and stay before a step
+-- the speeds of these cells, all or none, as step t begins, which are followed where a cell has speed records, and stay before a step
 pub record AreSpeedsOf (net : Network) (cells : List ℕ) (courses : List FollowedSpeed) (speeds : List (ℕ × ℕ)) (t until : ℕ) : Type 0 where
   pub there : All (IsSpeedThere (length speeds) t) courses
+  pub known : (p : ℕ) → p < length speeds → length cells ≤ length speeds
   pub values : All (λ one. (s : ℕ) → value_at one.course s ≡ cell_speed net cells one.place s) courses
   pub slow : All (λ one. is_slow net cells one.place ≡ true) courses
   pub whole : (p : ℕ) → p < length cells → is_slow net cells p ≡ true → is_listed courses p ≡ true
   pub in_force : AreSpeedsInForce (cell_speed net cells) courses speeds t until
-  pub others : (p : ℕ) → is_listed courses p ≡ false → speed_of speeds p ≡ (1, 1)
+  pub others : (p : ℕ) → is_listed courses p ≡ false → ratio_at speeds p ≡ (1, 1)

@@ -1,7 +1,7 @@
 -- A sweep of places on its way from the first to the last.
-use Rattle.std.specs.Prelude.{◌≡◌, ℕ, ◌+◌, ◌<◌, ◌≤◌, ◌^◌, List, length, slice_index}
+use Rattle.std.specs.Prelude.{◌≡◌, ◌≢◌, ℕ, ◌+◌, ◌<◌, ◌≤◌, ◌^◌, List, length, slice_index}
 use Rattle.region_body.specs.Places.{AreSound, link_in, place_at, swept}
-use Rattle.region_body.specs.Speeds.{at_speeds, speed_of}
+use Rattle.region_body.specs.Speeds.{at_speeds, ratio_at}
 use Rattle.region_body.specs.declared.place.Place.{Place}
 
 -- it has come to place p, which so much enters: all before it are swept and noted, and the later ones are as at first
@@ -16,8 +16,8 @@ pub record IsSweptTo (first : List Place) (speeds : List (ℕ × ℕ)) (p : ℕ)
 
 -- the speed at these places is their roads' own
 abbrev pub IsFree : (speeds : List (ℕ × ℕ)) → (from to : ℕ) → Type 0
-IsFree speeds from to = (p : ℕ) → from ≤ p → p < to → speed_of speeds p ≡ (1, 1)
+IsFree speeds from to = (p : ℕ) → from ≤ p → p < to → ratio_at speeds p ≡ (1, 1)
 
--- these places hold so little that the factors of speeds will do
-abbrev pub AreFew : List Place → (from to : ℕ) → Type 0
-AreFew places from to = (p : ℕ) → from ≤ p → p < to → (place_at places p).n < 2 ^ 53
+-- where a speed isn't the road's own, the place holds so little that its factor will do
+abbrev pub AreFew : List Place → (speeds : List (ℕ × ℕ)) → Type 0
+AreFew places speeds = (p : ℕ) → p < length places → ratio_at speeds p ≢ (1, 1) → (place_at places p).n < 2 ^ 53

@@ -1,7 +1,7 @@
 ghost use Rattle.std.specs.Prelude.{◌≡◌, ◌<◌, ◌≤◌, ℕ, All, false, length};
 ghost use Rattle.signal_plan.specs.Speeds.{IsSpeed};
 ghost use Rattle.courses.specs.Courses.{value_at};
-ghost use Rattle.region_body.specs.Speeds.{AreSpeedsInForce, AreSpeedsAsBefore, IsSpeedAsBefore, IsSpeedThere, is_listed, speed_of};
+ghost use Rattle.region_body.specs.Speeds.{AreSpeedsInForce, AreSpeedsAsBefore, IsSpeedAsBefore, IsSpeedThere, is_listed, ratio_at};
 
 use crate::speed_factor::SpeedFactor;
 use courses::Timeline;
@@ -33,7 +33,7 @@ pub(crate) fn follow_speeds(
     // Where the speed is `speed` by place and step, it is in force up to the step that is told.
     ensures in_force { (speed : ℕ → ℕ → ℕ × ℕ) → All (λ one. (s : ℕ) → value_at one.course s ≡ speed one.place s) courses.old →
         AreSpeedsInForce speed courses.old speeds.old t until → AreSpeedsInForce speed courses.old speeds.new t result }
-    ensures others { (p : ℕ) → is_listed courses.old p ≡ false → speed_of speeds.new p ≡ speed_of speeds.old p }
+    ensures others { (p : ℕ) → is_listed courses.old p ≡ false → ratio_at speeds.new p ≡ ratio_at speeds.old p }
 {
     if t < until {
         return until;
@@ -51,7 +51,7 @@ fn follow_all_speeds(t: u64, courses: &mut [FollowedSpeed], speeds: &mut [SpeedF
     ensures later { t < result }
     ensures in_force { (speed : ℕ → ℕ → ℕ × ℕ) → All (λ one. (s : ℕ) → value_at one.course s ≡ speed one.place s) courses.old →
         AreSpeedsInForce speed courses.old speeds.new t result }
-    ensures others { (p : ℕ) → is_listed courses.old p ≡ false → speed_of speeds.new p ≡ speed_of speeds.old p }
+    ensures others { (p : ℕ) → is_listed courses.old p ≡ false → ratio_at speeds.new p ≡ ratio_at speeds.old p }
 {
     let mut until = u64::MAX;
     for m in 0..courses.len() {

@@ -4,7 +4,8 @@
 //! is kept in the place, as the most that it carries, and followed where that changes. Any other connector is followed by
 //! itself, and finds its cells among the region's own or in its halo. A step writes what has changed of the most and of the
 //! speeds, takes all places through the links in one pass, then has each other connector carry its flow, then brings the
-//! demands of the gates. Places whose cells have speed records lie in runs, and the pass asks for speeds in these alone.
+//! demands of the gates. Places whose cells have speed records lie in zones, and the pass asks for speeds in these alone, but
+//! for up to three places at its end.
 //!
 //! All amounts are in parts. A step takes no memory.
 #![tactic(auto)]
@@ -29,12 +30,13 @@ mod passing;
 mod pause;
 mod place;
 mod placed;
-mod run;
 mod slow_cell;
 mod speed_factor;
+mod speed_zone;
 mod speeds;
 mod sweep;
-mod sweep_slowed;
+mod sweep_free;
+mod sweep_zones;
 mod waiting;
 
 pub use cells::Cells;

@@ -1,7 +1,7 @@
 ghost use Rattle.std.specs.Prelude.{◌≡◌, ◌<◌, ◌≤◌, MatchOption, length, min};
 ghost use Rattle.region_body.specs.Moving.{MoveNothing, MoveNothingIn, MovesAt};
 ghost use Rattle.region_body.specs.Places.{AreSound, link_out};
-ghost use Rattle.region_body.specs.Speeds.{at_speeds, slowed_place, speed_of};
+ghost use Rattle.region_body.specs.Speeds.{at_speeds, slowed_place, ratio_at};
 
 use crate::place::Place;
 use crate::speed_factor::SpeedFactor;
@@ -53,7 +53,7 @@ fn flow_from(places: &[Place], speeds: &[SpeedFactor], p: usize) -> u64
 
 // What the link out of this place, the `p`-th, can carry of what comes to the end of its cell.
 fn sent_from(place: &Place, speeds: &[SpeedFactor], p: usize) -> u64
-    ensures { result ≡ min (slowed_place place.now (speed_of speeds.now p)).most place.now.n }
+    ensures { result ≡ min (slowed_place place.now (ratio_at speeds.now p)).most place.now.n }
 {
     if p < speeds.len() {
         place.most.min(speeds[p].arriving(place.n))

@@ -23,8 +23,8 @@ use crate::gate::GatePlace;
 use crate::opening::{constants_of, earlier_of, gates_of, nothing_put, places_of};
 use crate::pause::{Pause, hold_the_same, note_seen};
 use crate::place::Place;
-use crate::run::Run;
 use crate::speed_factor::SpeedFactor;
+use crate::speed_zone::SpeedZone;
 use crate::speeds::speeds_of;
 use crate::sweep::sweep;
 use crate::waiting::{note_held, wait_all, waited};
@@ -45,7 +45,7 @@ pub struct PlacedRows {
     // The speed at each place, none where no cell has speed records; where places lie whose cells have some; and how these
     // change, none before a step.
     speeds: Vec<SpeedFactor>,
-    runs: Vec<Run>,
+    zones: Vec<SpeedZone>,
     speed_courses: Vec<FollowedSpeed>,
     speeds_until: u64,
     links: Vec<FollowedLink>,
@@ -71,7 +71,7 @@ impl Model for PlacedRows {
       constants = rows.constants.items;
       before = rows.before.items;
       speeds = rows.speeds.items;
-      runs = rows.runs.items;
+      zones = rows.zones.items;
       speed_courses = rows.speed_courses.items;
       speeds_until = rows.speeds_until;
       links = rows.links.items;
@@ -129,7 +129,7 @@ impl PlacedRows {
             constants,
             before,
             speeds: speeds.now,
-            runs: speeds.runs,
+            zones: speeds.zones,
             speed_courses: speeds.courses,
             speeds_until: 0,
             links: connections.links,
@@ -287,7 +287,12 @@ impl PlacedRows {
             self.speeds_until,
         );
         self.connectors_until = follow_connectors(t, &mut self.connectors, self.connectors_until);
-        sweep(&mut self.places, &self.speeds, &self.runs, &mut self.before);
+        sweep(
+            &mut self.places,
+            &self.speeds,
+            &self.zones,
+            &mut self.before,
+        );
         carry_all(t, &self.connectors, &self.before, put, &mut self.places);
         bring_demands(t, &mut self.gates, &mut self.places);
     }

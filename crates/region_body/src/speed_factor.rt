@@ -1,4 +1,4 @@
-ghost use Rattle.std.specs.Prelude.{◌≡◌, ◌<◌, ◌≤◌, ◌^◌};
+ghost use Rattle.std.specs.Prelude.{◌≡◌, ◌≢◌, ◌<◌, ◌≤◌, ◌^◌};
 ghost use Rattle.signal_plan.specs.Speeds.{IsSpeed, arriving};
 
 use flow_model::arriving;
@@ -54,9 +54,23 @@ impl SpeedFactor {
         arriving((self.num, self.den), n)
     }
 
-    /// The same of so few parts that the factor will do.
+    /// The same of so few parts that the factor will do. Where it is 1/1 there is no product.
     #[inline(always)]
-    pub(crate) fn arriving_by_factor(self, n: u64) -> u64
+    pub(crate) fn arriving_of_few(self, n: u64) -> u64
+        requires few { self ≢ (1, 1) → n < 2 ^ 53 }
+        ensures flow { result ≡ arriving self n }
+        ensures held { result ≤ n }
+    {
+        if self.den == 1 {
+            n
+        } else {
+            self.arriving_by_factor(n)
+        }
+    }
+
+    // The same by the factor.
+    #[inline(always)]
+    fn arriving_by_factor(self, n: u64) -> u64
         requires few { n < 2 ^ 53 }
         ensures flow { result ≡ arriving self n }
         ensures held { result ≤ n }

@@ -1,11 +1,11 @@
-ghost use Rattle.std.specs.Prelude.{◌≡◌, ◌-◌, ◌<◌, ◌^◌, ℕ, All, IfOk, length, true};
-ghost use Rattle.region_body.specs.Runs.{AreRuns};
+ghost use Rattle.std.specs.Prelude.{◌≡◌, ◌-◌, ◌/◌, ◌<◌, ◌^◌, ℕ, All, IfOk, length, true};
+ghost use Rattle.region_body.specs.SpeedZones.{AreZones, is_slow_four};
 ghost use Rattle.region_body.specs.Speeds.{AreSpeedsOf, IsSpeedOpened, is_listed, is_slow};
 
 use crate::followed_speed::FollowedSpeed;
-use crate::run::{Run, runs_of};
 use crate::slow_cell::is_slow;
 use crate::speed_factor::SpeedFactor;
+use crate::speed_zone::{SpeedZone, zones_of};
 use courses::speed_of;
 use network_file::Net;
 use no_memory::NoMemory;
@@ -16,8 +16,8 @@ use std::alloc::Global;
 pub(crate) struct Speeds {
     /// The speed at each place, 1/1 until it is followed; none where no cell has speed records.
     pub(crate) now: Vec<SpeedFactor>,
-    /// Where places lie whose cells have some, but for the last place.
-    pub(crate) runs: Vec<Run>,
+    /// Where places lie whose cells have some, in the whole fours before the last place.
+    pub(crate) zones: Vec<SpeedZone>,
     /// The speeds in these cells as they change.
     pub(crate) courses: Vec<FollowedSpeed>,
 }
@@ -27,14 +27,14 @@ pub(crate) fn speeds_of(alloc: Global, net: &Net, cells: &[u32]) -> Result<Speed
     requires there { All (λ i. i < length net.now.cells) cells.now }
     requires few { length cells.now < 2 ^ 32 }
     ensures speeds { IfOk result (λ speeds. (t : ℕ) → AreSpeedsOf net.now cells.now speeds.courses.items speeds.now.items t 0) }
-    ensures runs { IfOk result (λ speeds. AreRuns (is_slow net.now cells.now) (length cells.now - 1) speeds.runs.items) }
+    ensures zones { IfOk result (λ speeds. AreZones (is_slow_four (is_slow net.now cells.now)) ((length cells.now - 1) / 4) speeds.zones.items) }
 {
     let _steps = net.steps;
     let courses = courses_of(alloc, net, cells)?;
     let count = if courses.is_empty() { 0 } else { cells.len() };
     Ok(Speeds {
         now: vec![in alloc; SpeedFactor::new((1, 1)); count]?,
-        runs: runs_of(alloc, net, cells)?,
+        zones: zones_of(alloc, net, cells)?,
         courses,
     })
 }

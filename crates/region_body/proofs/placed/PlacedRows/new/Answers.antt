@@ -96,7 +96,7 @@ returns-clause-placed c =
       demands = λ k d within. let is = (rw c.placed-cells.ensures at c.in_ok-gates.ensures.demands) k d within in record { demand = is.demand; step = omega (arith, is.step) };
       links = subst (λ n. All (IsLinkThere n t) c.in_ok-connections.connections.links.items) (sym (after_long ∙ opened.first_each)) c.in_ok-connections.ensures.links;
       speeds = (rw c.placed-cells.ensures at c.in_ok-speeds.ensures.speeds) t;
-      runs = rw c.placed-cells.ensures at c.in_ok-speeds.ensures.runs;
+      zones = rw c.placed-cells.ensures at c.in_ok-speeds.ensures.zones;
       followed = c.in_ok-connections.ensures.followed;
       pause = record { idle = λ s none. absurd (omega (arith, none)); owed = omega arith; kept = λ some. absurd (omega (arith, some)) };
       seen_each = ap length c.in_ok-seen.ensures ∙ length-replicate (length halo) None;

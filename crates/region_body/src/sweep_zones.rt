@@ -1,15 +1,49 @@
-ghost use Rattle.std.specs.Prelude.{◌≡◌, ◌+◌, ◌*◌, ◌<◌, ◌≤◌, ◌^◌, ℕ, List, length, slice_index};
-ghost use Rattle.region_body.specs.Places.{carried, place_at};
-ghost use Rattle.region_body.specs.Speeds.{slowed_place};
+ghost use Rattle.std.specs.Prelude.{◌≡◌, ◌≢◌, ◌+◌, ◌*◌, ◌<◌, ◌≤◌, ◌^◌, ℕ, List, length};
+ghost use Rattle.region_body.specs.Places.{AreSound, carried, place_at};
+ghost use Rattle.region_body.specs.Speeds.{CanSweep, slowed_place};
 ghost use Rattle.region_body.specs.Sweeping.{AreFew, IsSweptTo};
 ghost use Rattle.region_body.specs.declared.place.Place.{Place as PlaceValue};
 
 use crate::place::Place;
 use crate::speed_factor::SpeedFactor;
+use crate::speed_zone::SpeedZone;
+use crate::sweep_free::sweep_fours;
 
-/// Takes the places from one up to another through a step, each of which sends at its speed.
+/// Takes the places before the last through a step, and gives what enters that. Speeds are asked for in these zones and behind
+/// the last whole four.
 #[inline(always)]
-pub(crate) fn sweep_slowed(
+pub(crate) fn sweep_zones(
+    places: &mut [Place],
+    speeds: &[SpeedFactor],
+    zones: &[SpeedZone],
+    before: &mut [u64],
+    last: usize,
+) -> u64
+    requires sound { AreSound places.old }
+    requires within { last + 1 ≡ length places.old }
+    requires one_each { length before.old ≡ length places.old }
+    requires known { length places.old ≤ length speeds.now }
+    requires can { CanSweep places.old speeds.now zones.now }
+    ensures { IsSweptTo places.old speeds.now last places.new before.new result }
+{
+    let fours = last / 4;
+    let mut flow = 0;
+    let mut m = 0;
+    for zone in zones {
+        flow = sweep_fours(places, before, m, zone.from, flow);
+        flow = slowed_fours(places, speeds, before, zone.from, zone.to, flow);
+        m = zone.to;
+    }
+    flow = sweep_fours(places, before, m, fours, flow);
+    for p in 4 * fours..last {
+        flow = slowed_one(places, speeds, before, p, flow);
+    }
+    flow
+}
+
+// Takes the fours from one up to another.
+#[inline(always)]
+fn slowed_fours(
     places: &mut [Place],
     speeds: &[SpeedFactor],
     before: &mut [u64],
@@ -18,43 +52,16 @@ pub(crate) fn sweep_slowed(
     enters: u64,
 ) -> u64
     requires forward { from ≤ to }
-    requires there { to < length places.old }
-    requires known { to ≤ length speeds.now }
-    requires few { AreFew places.old from to }
+    requires there { 4 * to < length places.old }
+    requires known { length places.old ≤ length speeds.now }
     requires one_each { length before.old ≡ length places.old }
-    requires swept { (first : List PlaceValue) × IsSweptTo first speeds.now from places.old before.old enters }
-    ensures { (first : List PlaceValue) → IsSweptTo first speeds.now from places.old before.old enters →
-        IsSweptTo first speeds.now to places.new before.new result }
-{
-    let fours = (to - from) / 4;
-    let mut flow = slowed_fours(places, speeds, before, from, fours, enters);
-    for p in from + 4 * fours..to {
-        flow = slowed_one(places, speeds, before, p, flow);
-    }
-    flow
-}
-
-// Takes so many times four places from one on.
-#[inline(always)]
-fn slowed_fours(
-    places: &mut [Place],
-    speeds: &[SpeedFactor],
-    before: &mut [u64],
-    from: usize,
-    fours: usize,
-    enters: u64,
-) -> u64
-    requires there { from + 4 * fours < length places.old }
-    requires known { from + 4 * fours ≤ length speeds.now }
-    requires few { AreFew places.old from (from + 4 * fours) }
-    requires one_each { length before.old ≡ length places.old }
-    requires swept { (first : List PlaceValue) × IsSweptTo first speeds.now from places.old before.old enters }
-    ensures { (first : List PlaceValue) → IsSweptTo first speeds.now from places.old before.old enters →
-        IsSweptTo first speeds.now (from + 4 * fours) places.new before.new result }
+    requires swept { (first : List PlaceValue) × IsSweptTo first speeds.now (4 * from) places.old before.old enters × AreFew first speeds.now }
+    ensures { (first : List PlaceValue) → IsSweptTo first speeds.now (4 * from) places.old before.old enters →
+        IsSweptTo first speeds.now (4 * to) places.new before.new result }
 {
     let mut flow = enters;
-    for m in 0..fours {
-        flow = slowed_four(places, speeds, before, from + 4 * m, flow);
+    for m in from..to {
+        flow = slowed_four(places, speeds, before, 4 * m, flow);
     }
     flow
 }
@@ -69,10 +76,9 @@ fn slowed_four(
     enters: u64,
 ) -> u64
     requires there { p + 4 < length places.old }
-    requires known { p + 4 ≤ length speeds.now }
-    requires few { AreFew places.old p (p + 4) }
+    requires known { length places.old ≤ length speeds.now }
     requires one_each { length before.old ≡ length places.old }
-    requires swept { (first : List PlaceValue) × IsSweptTo first speeds.now p places.old before.old enters }
+    requires swept { (first : List PlaceValue) × IsSweptTo first speeds.now p places.old before.old enters × AreFew first speeds.now }
     ensures { (first : List PlaceValue) → IsSweptTo first speeds.now p places.old before.old enters →
         IsSweptTo first speeds.now (p + 4) places.new before.new result }
 {
@@ -92,28 +98,28 @@ fn slowed_one(
     enters: u64,
 ) -> u64
     requires there { p + 1 < length places.old }
-    requires known { p < length speeds.now }
-    requires few { (place_at places.old p).n < 2 ^ 53 }
+    requires known { length places.old ≤ length speeds.now }
     requires one_each { length before.old ≡ length places.old }
-    requires swept { (first : List PlaceValue) × IsSweptTo first speeds.now p places.old before.old enters }
+    requires swept { (first : List PlaceValue) × IsSweptTo first speeds.now p places.old before.old enters × AreFew first speeds.now }
     ensures { (first : List PlaceValue) → IsSweptTo first speeds.now p places.old before.old enters →
         IsSweptTo first speeds.now (p + 1) places.new before.new result }
 {
     let leaves = carried_slowed(&places[p], &places[p + 1], speeds[p]);
-    before[p] = places[p].n;
+    let held = places[p].n;
     places[p].step(enters, leaves);
+    before[p] = held;
     leaves
 }
 
 // What the link out of a place carries at this speed.
 #[inline(always)]
 fn carried_slowed(place: &Place, next: &Place, speed: SpeedFactor) -> u64
-    requires few { place.now.n < 2 ^ 53 }
+    requires few { speed ≢ (1, 1) → place.now.n < 2 ^ 53 }
     requires fits { next.now.n ≤ next.now.space.storage }
     ensures flow { result ≡ carried (slowed_place place.now speed) next.now }
     ensures held { result ≤ place.now.n }
     ensures fits { next.now.n + result < 2 ^ 64 }
 {
-    let sent = place.most.min(speed.arriving_by_factor(place.n));
+    let sent = place.most.min(speed.arriving_of_few(place.n));
     sent.min(next.space.let_in(next.n))
 }

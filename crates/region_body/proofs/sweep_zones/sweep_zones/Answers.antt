@@ -1,0 +1,71 @@
+use Rattle.std.proofs.Common.{◌≡◌, refl, sym, ap, ◌∙◌, add-one, length, arith}
+use Rattle.region_body.specs.SpeedZones.{end_before}
+use Rattle.region_body.proofs.AtSpeeds.{few-slow, free-before, free-behind}
+use Rattle.region_body.proofs.Swept.{swept-none}
+use Rattle.region_body.proofs.sweep_zones.sweep_zones.Goals as goal
+
+pub loop-zone-init : goal.loop-zone-init
+loop-zone-init c = record {
+  at = refl;
+  swept = swept-none c.args.places.now c.args.speeds.now c.args.before.now c.requires.sound (omega (arith, c.requires.within));
+}
+
+pub sweep_fours-flow-requires-clause-swept : goal.sweep_fours-flow-requires-clause-swept
+sweep_fours-flow-requires-clause-swept c =
+    let first = c.args.places.now in
+    let speeds = c.args.speeds.now in
+    let at = c.loop-zone.invariant.at in (
+      first,
+      speeds,
+      c.loop-zone.invariant.swept,
+      λ p from before. free-before first speeds c.args.zones.now c.loop-zone.zone-index c.requires.can c.loop-zone-test.true p (omega (arith, from, at)) before,
+    )
+
+pub slowed_fours-flow-requires-clause-swept : goal.slowed_fours-flow-requires-clause-swept
+slowed_fours-flow-requires-clause-swept c =
+    let first = c.args.places.now in
+    let speeds = c.args.speeds.now in
+    let zones = c.args.zones.now in
+    let at = c.loop-zone.invariant.at in (
+      first,
+      c.sweep_fours-flow.ensures first speeds c.loop-zone.invariant.swept
+          (λ p from before. free-before first speeds zones c.loop-zone.zone-index c.requires.can c.loop-zone-test.true p (omega (arith, from, at)) before),
+      few-slow first speeds zones c.requires.can,
+    )
+
+pub loop-zone-preserved : goal.loop-zone-preserved
+loop-zone-preserved c =
+    let first = c.args.places.now in
+    let speeds = c.args.speeds.now in
+    let zones = c.args.zones.now in
+    let at = c.loop-zone.invariant.at in
+    record {
+      at = sym (ap (end_before zones) (add-one c.loop-zone.zone-index));
+      swept = c.slowed_fours-flow.ensures first (
+          c.sweep_fours-flow.ensures first speeds c.loop-zone.invariant.swept
+          (λ p from before. free-before first speeds zones c.loop-zone.zone-index c.requires.can c.loop-zone-test.true p (omega (arith, from, at)) before)
+          );
+    }
+
+pub sweep_fours-flow-requires-2-clause-swept : goal.sweep_fours-flow-requires-2-clause-swept
+sweep_fours-flow-requires-2-clause-swept c =
+    let first = c.args.places.now in
+    let speeds = c.args.speeds.now in
+    let zones = c.args.zones.now in
+    let all : c.loop-zone.zone-index ≡ length zones = omega (arith, c.loop-zone.auto.zone-index-end, c.loop-zone-test.false) in
+    let at = c.loop-zone.invariant.at ∙ ap (end_before zones) all in (
+      first,
+      speeds,
+      c.loop-zone.invariant.swept,
+      λ p from before. free-behind first speeds zones c.requires.can p (omega (arith, from, at)) (omega (arith, before, c.requires.within)),
+    )
+
+pub loop-p-init : goal.loop-p-init
+loop-p-init c =
+    let first = c.args.places.now in
+    let speeds = c.args.speeds.now in
+    let zones = c.args.zones.now in
+    let all : c.loop-zone.zone-index ≡ length zones = omega (arith, c.loop-zone.auto.zone-index-end, c.loop-zone-test.false) in
+    let at = c.loop-zone.invariant.at ∙ ap (end_before zones) all in
+    c.sweep_fours-flow-2.ensures first speeds c.loop-zone.invariant.swept
+    (λ p from before. free-behind first speeds zones c.requires.can p (omega (arith, from, at)) (omega (arith, before, c.requires.within)))

@@ -1,0 +1,13 @@
+use Rattle.std.proofs.Common.{◌≡◌, ◌*◌}
+use Rattle.region_body.specs.SpeedZones.{end_before}
+use Rattle.region_body.specs.Sweeping.{IsSweptTo}
+use Rattle.region_body.proofs.sweep_zones.sweep_zones.Given as goal
+
+abbrev pub invariant-loop-zone : goal.invariant-loop-zone
+invariant-loop-zone l = record {
+  at : l.m ≡ end_before l.zones l.zone-index;
+  swept : IsSweptTo l.initial.places l.speeds (4 * l.m) l.places l.before l.flow;
+}
+
+abbrev pub invariant-loop-p : goal.invariant-loop-p
+invariant-loop-p l = IsSweptTo l.fn.places l.speeds l.p l.places l.before l.flow

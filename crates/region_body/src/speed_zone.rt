@@ -1,0 +1,54 @@
+ghost use Rattle.std.specs.Prelude.{◌≡◌, ◌+◌, ◌-◌, ◌*◌, ◌/◌, ◌<◌, ◌≤◌, ℕ, All, IfOk, length};
+ghost use Rattle.region_body.specs.SpeedZones.{AreZones, is_slow_four};
+ghost use Rattle.region_body.specs.Speeds.{is_slow};
+
+use crate::slow_cell::is_slow;
+use network_file::Net;
+use no_memory::NoMemory;
+use std::alloc::Global;
+
+/// Fours of places side by side, each with a cell that has speed records: from one up to another. The `m`-th four begins at
+/// place `4 * m`.
+#[derive(Clone, Copy)]
+pub(crate) struct SpeedZone {
+    /// The first of them.
+    pub(crate) from: usize,
+    /// The one behind the last.
+    pub(crate) to: usize,
+}
+
+/// The zones of these cells, as they are placed, in the whole fours before the last cell, out of which no link to a next one
+/// leads.
+pub(crate) fn zones_of(alloc: Global, net: &Net, cells: &[u32]) -> Result<Vec<SpeedZone>, NoMemory>
+    requires there { All (λ i. i < length net.now.cells) cells.now }
+    ensures { IfOk result (λ zones. AreZones (is_slow_four (is_slow net.now cells.now)) ((length cells.now - 1) / 4) zones.items) }
+{
+    let fours = cells.len().saturating_sub(1) / 4;
+    let mut zones = Vec::new(alloc);
+    let mut from = 0;
+    for m in 0..fours {
+        if !is_slow_four(net, cells, m) {
+            if from < m {
+                zones.push(SpeedZone { from, to: m })?;
+            }
+            from = m + 1;
+        }
+    }
+    if from < fours {
+        zones.push(SpeedZone { from, to: fours })?;
+    }
+    Ok(zones)
+}
+
+// Whether a cell of the `m`-th four has speed records and is no exit.
+fn is_slow_four(net: &Net, cells: &[u32], m: usize) -> bool
+    requires within { 4 * m + 4 ≤ length cells.now }
+    requires there { All (λ i. i < length net.now.cells) cells.now }
+    ensures { result ≡ is_slow_four (is_slow net.now cells.now) m }
+{
+    let p = 4 * m;
+    is_slow(net, cells, p)
+        || is_slow(net, cells, p + 1)
+        || is_slow(net, cells, p + 2)
+        || is_slow(net, cells, p + 3)
+}
