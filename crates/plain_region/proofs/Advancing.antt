@@ -24,11 +24,11 @@ use Rattle.plain_region.specs.Carrying.{CanChangeAt, IsChangeOf, IsScene, change
 use Rattle.plain_region.specs.Opened.{IsIn}
 use Rattle.plain_region.specs.Plain.{PlainValue}
 use Rattle.plain_region.specs.declared.change.Change.{Change}
-use Rattle.plain_region.specs.declared.tie.Tie.{Tie}
+use Rattle.plain_region.specs.declared.region_connector.RegionConnector.{RegionConnector}
 
 pub scene : (net : Network) (chart : ChartLists) (region : PlainValue) → IsNetwork net → IsIn net chart region → region.state.step < net.steps →
     HasRowsInBounds net chart region.state → HasHaloPut net chart region.state →
-    IsScene net region.state.step (list_at chart.cells region.state.number) (halo_cells chart region.state.number) region.body.ties region.state.rows region.state.put
+    IsScene net region.state.step (list_at chart.cells region.state.number) (halo_cells chart region.state.number) region.body.connectors region.state.rows region.state.put
 scene net chart region sound inside before bounds halo =
     let r : ℕ = region.state.number in
     let here = ground net chart.cut chart r sound inside.charted inside.one_of.there in
@@ -37,8 +37,8 @@ scene net chart region sound inside before bounds halo =
       before = before;
       apart = here.apart;
       there = λ k d within. (here.own (get_or (list_at chart.cells r) k d) (Contains-get_or (list_at chart.cells r) k d within)).0;
-      tied = inside.ties.each;
-      whole = λ i k own there touched. subst (λ numbers. Contains numbers k) (sym inside.ties.numbers) (here.whole i k own there touched);
+      found = inside.connectors.each;
+      whole = λ i k own there touched. subst (λ numbers. Contains numbers k) (sym inside.connectors.numbered) (here.whole i k own there touched);
       row_each = inside.one_of.rows;
       put_each = inside.one_of.put ∙ sym (length-map (list_at chart.halo r) (λ halo. halo.cell));
       own = bounds.each;
@@ -49,12 +49,12 @@ scene net chart region sound inside before bounds halo =
     }
 
 -- the same of what was read from the region
-pub scene-read : (net : Network) (chart : ChartLists) (region : PlainValue) (t : ℕ) (cells halo : List ℕ) (ties : List Tie) (rows : List Row) (put : List (Option ℕ)) →
+pub scene-read : (net : Network) (chart : ChartLists) (region : PlainValue) (t : ℕ) (cells halo : List ℕ) (connectors : List RegionConnector) (rows : List Row) (put : List (Option ℕ)) →
     IsNetwork net → IsIn net chart region → region.state.step < net.steps → HasRowsInBounds net chart region.state → HasHaloPut net chart region.state →
-    t ≡ region.state.step → cells ≡ list_at chart.cells region.state.number → halo ≡ halo_cells chart region.state.number → ties ≡ region.body.ties →
-    rows ≡ region.state.rows → put ≡ region.state.put → IsScene net t cells halo ties rows put
-scene-read net chart region t cells halo ties rows put sound inside before bounds told at own around tied row_each put_each =
-    rw (at, own, around, tied, row_each, put_each) (scene net chart region sound inside before bounds told)
+    t ≡ region.state.step → cells ≡ list_at chart.cells region.state.number → halo ≡ halo_cells chart region.state.number → connectors ≡ region.body.connectors →
+    rows ≡ region.state.rows → put ≡ region.state.put → IsScene net t cells halo connectors rows put
+scene-read net chart region t cells halo connectors rows put sound inside before bounds told at own around found row_each put_each =
+    rw (at, own, around, found, row_each, put_each) (scene net chart region sound inside before bounds told)
 
 -- what enters in all is the inflow, and so the row can change
 enters-is : (net : Network) (t i : ℕ) (n : ℕ → ℕ) (change : Change) → IsChangeOf net t n i change → enters_in_all net t i change ≡ inflow net t n i
@@ -63,10 +63,10 @@ enters-is net t i n change is = elim (cases_Bool (is_gate_at net.cells i)) [
   | inr other ↦ rw other (is.enters other)
 ]
 
-pub can_change : (net : Network) (t : ℕ) (cells halo : List ℕ) (ties : List Tie) (rows : List Row) (put : List (Option ℕ)) (all : List Change) (p : ℕ) →
-    IsScene net t cells halo ties rows put → p < length cells → IsChangeOf net t (known cells halo rows put) (slice_index cells p) (change_at all p) →
+pub can_change : (net : Network) (t : ℕ) (cells halo : List ℕ) (connectors : List RegionConnector) (rows : List Row) (put : List (Option ℕ)) (all : List Change) (p : ℕ) →
+    IsScene net t cells halo connectors rows put → p < length cells → IsChangeOf net t (known cells halo rows put) (slice_index cells p) (change_at all p) →
     CanChangeAt net t cells rows all p
-can_change net t cells halo ties rows put all p scene within is =
+can_change net t cells halo connectors rows put all p scene within is =
     let n : ℕ → ℕ = known cells halo rows put in
     let i : ℕ = slice_index cells p in
     let row : Row = row_at rows p in
@@ -104,11 +104,11 @@ pub next_rows-read : (net : Network) (chart : ChartLists) (region : PlainValue) 
     rows_after net t (known cells halo rows put) cells rows ≡ next_rows_of net chart region.state
 next_rows-read net chart region t cells halo rows put at own around row_each put_each = rw (at, own, around, row_each, put_each) refl
 
--- a region with the same ties and borders that has come a step on
+-- a region with the same connectors and borders that has come a step on
 pub advanced-inside : (net : Network) (chart : ChartLists) (old new : PlainValue) → IsIn net chart old → old.state.step < net.steps → new.state ≡ advanced net chart old.state →
-    new.body.ties ≡ old.body.ties → new.body.border ≡ old.body.border → IsIn net chart new
+    new.body.connectors ≡ old.body.connectors → new.body.border ≡ old.body.border → IsIn net chart new
 unfolding advanced
-advanced-inside net chart old new inside before is ties border =
+advanced-inside net chart old new inside before is connectors border =
     record {
       charted = inside.charted;
       one_of = rw (is, border) (record {
@@ -119,5 +119,5 @@ advanced-inside net chart old new inside before is ties border =
         border = inside.one_of.border;
       });
       in_time = rw is (omega (arith, before));
-      ties = rw (is, ties) inside.ties;
+      connectors = rw (is, connectors) inside.connectors;
     }

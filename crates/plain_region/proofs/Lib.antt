@@ -1,4 +1,4 @@
-pub mod Places
+pub mod CellRefs
 pub mod Changes
 pub mod Carrying
 pub mod Advancing

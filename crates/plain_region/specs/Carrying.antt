@@ -14,24 +14,24 @@ use Rattle.flow_model.specs.State.{occupancy, row_at}
 use Rattle.flow_model.specs.declared.carried.Flow.{Flow}
 use Rattle.flow_model.specs.declared.row.Row.{Row}
 use Rattle.region_step.specs.Apart.{AreApart}
-use Rattle.plain_region.specs.Ties.{IsTie, place_at}
+use Rattle.plain_region.specs.RegionConnectors.{IsRegionConnector, ref_at}
 use Rattle.plain_region.specs.declared.change.Change.{Change}
-use Rattle.plain_region.specs.declared.place.Place.{Place}
-use Rattle.plain_region.specs.declared.place.Place.TheVariants.{Own, Halo}
-use Rattle.plain_region.specs.declared.tie.Tie.{Tie}
+use Rattle.plain_region.specs.declared.cell_ref.CellRef.{CellRef}
+use Rattle.plain_region.specs.declared.cell_ref.CellRef.TheVariants.{Own, Halo}
+use Rattle.plain_region.specs.declared.region_connector.RegionConnector.{RegionConnector}
 
--- what the cell at a place holds
-abbrev pub held_at : List Row → (put : List (Option ℕ)) → Place → ℕ
+-- what a cell holds
+abbrev pub held_at : List Row → (put : List (Option ℕ)) → CellRef → ℕ
 held_at rows put (Own p) = occupancy rows p
 held_at rows put (Halo p) = unwrap_or (slice_index_or put p None) 0
 
--- the place is there
-abbrev pub IsThere : List Row → (put : List (Option ℕ)) → Place → Type 0
+-- the cell is there
+abbrev pub IsThere : List Row → (put : List (Option ℕ)) → CellRef → Type 0
 IsThere rows put (Own p) = p < length rows
 IsThere rows put (Halo p) = p < length put
 
 -- where it is one of the region's own, it has a change among these
-abbrev pub IsAmong : List Change → Place → Type 0
+abbrev pub IsAmong : List Change → CellRef → Type 0
 IsAmong changes (Own p) = p < length changes
 IsAmong changes (Halo p) = ⊤
 
@@ -42,38 +42,38 @@ no_change = record { enters = 0; leaves = 0 }
 abbrev pub change_at : List Change → (p : ℕ) → Change
 change_at changes p = slice_index_or changes p no_change
 
--- so much leaves the cell at a place, or enters it; of the halo nothing is written
-abbrev pub with_leaving : List Change → Place → (parts : ℕ) → List Change
+-- so much leaves a cell, or enters it; of the halo nothing is written
+abbrev pub with_leaving : List Change → CellRef → (parts : ℕ) → List Change
 with_leaving changes (Own p) parts = slice_set changes p (record (change_at changes p) { leaves = parts })
 with_leaving changes (Halo p) parts = changes
 
-abbrev pub with_entering : List Change → Place → (parts : ℕ) → List Change
+abbrev pub with_entering : List Change → CellRef → (parts : ℕ) → List Change
 with_entering changes (Own p) parts = slice_set changes p (record (change_at changes p) { enters = parts })
 with_entering changes (Halo p) parts = changes
 
 -- the changes once a connector has carried this flow
-abbrev pub moved_by : Connector → Tie → Flow → List Change → List Change
-moved_by (Link up down) tie flow changes =
-    with_entering (with_leaving changes (place_at tie 0) flow.out1) (place_at tie 1) flow.in1
-moved_by (Merge up1 up2 down p1 p2) tie flow changes =
-    with_entering (with_leaving (with_leaving changes (place_at tie 0) flow.out1) (place_at tie 1) flow.out2) (place_at tie 2) flow.in1
-moved_by (Diverge up down1 down2 b1 b2) tie flow changes =
-    with_entering (with_entering (with_leaving changes (place_at tie 0) flow.out1) (place_at tie 1) flow.in1) (place_at tie 2) flow.in2
+abbrev pub moved_by : Connector → RegionConnector → Flow → List Change → List Change
+moved_by (Link up down) one flow changes =
+    with_entering (with_leaving changes (ref_at one 0) flow.out1) (ref_at one 1) flow.in1
+moved_by (Merge up1 up2 down p1 p2) one flow changes =
+    with_entering (with_leaving (with_leaving changes (ref_at one 0) flow.out1) (ref_at one 1) flow.out2) (ref_at one 2) flow.in1
+moved_by (Diverge up down1 down2 b1 b2) one flow changes =
+    with_entering (with_entering (with_leaving changes (ref_at one 0) flow.out1) (ref_at one 1) flow.in1) (ref_at one 2) flow.in2
 
--- what the three places of a tie hold
-abbrev pub three_held : Tie → List Row → (put : List (Option ℕ)) → List ℕ
-three_held tie rows put = held_at rows put (place_at tie 0) ∷ held_at rows put (place_at tie 1) ∷ held_at rows put (place_at tie 2) ∷ []
+-- what a connector's three cells hold
+abbrev pub three_held : RegionConnector → List Row → (put : List (Option ℕ)) → List ℕ
+three_held one rows put = held_at rows put (ref_at one 0) ∷ held_at rows put (ref_at one 1) ∷ held_at rows put (ref_at one 2) ∷ []
 
--- what the connector of a tie carries in step t
-abbrev pub carried_of : Network → (t : ℕ) → Tie → List Row → (put : List (Option ℕ)) → Flow
-carried_of net t tie rows put = flow_between net t (connector_at net.connectors tie.connector) (three_held tie rows put)
+-- what it carries in step t
+abbrev pub carried_of : Network → (t : ℕ) → RegionConnector → List Row → (put : List (Option ℕ)) → Flow
+carried_of net t one rows put = flow_between net t (connector_at net.connectors one.number) (three_held one rows put)
 
 -- it can carry it
-pub record CanCarry (net : Network) (t : ℕ) (tie : Tie) (rows : List Row) (put : List (Option ℕ)) : Type 0 where
-  pub connector : tie.connector < length net.connectors
+pub record CanCarry (net : Network) (t : ℕ) (one : RegionConnector) (rows : List Row) (put : List (Option ℕ)) : Type 0 where
+  pub connector : one.number < length net.connectors
   pub before : t < net.steps
-  pub places : (m : ℕ) → m < 3 → IsThere rows put (place_at tie m)
-  pub held : AreHeldInBounds net t (cells_of (connector_at net.connectors tie.connector)) (three_held tie rows put)
+  pub refs : (m : ℕ) → m < 3 → IsThere rows put (ref_at one m)
+  pub held : AreHeldInBounds net t (cells_of (connector_at net.connectors one.number)) (three_held one rows put)
 
 -- what connectors bring to cell i and take from it in step t; what enters a gate is its demand alone
 pub record IsChangeOf (net : Network) (t : ℕ) (n : ℕ → ℕ) (i : ℕ) (change : Change) : Type 0 where
@@ -103,16 +103,16 @@ rows_changed net t cells rows changes =
     map (λ p. moved_row net (slice_index cells p) (row_at rows p) (enters_in_all net t (slice_index cells p) (change_at changes p)) (change_at changes p).leaves)
     (range_with_len 0 (length cells))
 
--- all that a region's step stands on: its cells, with a row in bounds for each; its halo, with an occupancy in bounds for each; and a tie
--- for each connector that touches one of its cells
-pub record IsScene (net : Network) (t : ℕ) (cells halo : List ℕ) (ties : List Tie) (rows : List Row) (put : List (Option ℕ)) : Type 0 where
+-- all that a region's step stands on: its cells, with a row in bounds for each; its halo, with an occupancy in bounds for each; and each
+-- connector that touches one of its cells
+pub record IsScene (net : Network) (t : ℕ) (cells halo : List ℕ) (connectors : List RegionConnector) (rows : List Row) (put : List (Option ℕ)) : Type 0 where
   pub sound : IsNetwork net
   pub before : t < net.steps
   pub apart : AreApart cells halo
   pub there : All (λ i. i < length net.cells) cells
-  pub tied : All (IsTie net cells halo) ties
+  pub found : All (IsRegionConnector net cells halo) connectors
   pub whole : (i k : ℕ) → Contains cells i → k < length net.connectors → touches i (connector_at net.connectors k) ≡ true →
-      Contains (map (λ tie. tie.connector) ties) k
+      Contains (map (λ one. one.number) connectors) k
   pub row_each : length rows ≡ length cells
   pub put_each : length put ≡ length halo
   pub own : (p : ℕ) → p < length cells → IsRowInBounds net t (slice_index cells p) (row_at rows p)

@@ -3,4 +3,4 @@ pub mod CellRows
 pub mod Opened
 pub mod Opening
 pub mod Plain
-pub mod Ties
+pub mod RegionConnectors

@@ -4,7 +4,7 @@ use Rattle.network_file.specs.Network.{Network}
 use Rattle.region_cut.specs.Chart.{ChartLists, chart_of, list_at}
 use Rattle.region_cut.specs.Cuttings.{region_count}
 use Rattle.region_step.specs.Opened.{halo_cells}
-use Rattle.plain_region.specs.Ties.{AreTies}
+use Rattle.plain_region.specs.RegionConnectors.{AreRegionConnectors}
 use Rattle.region_step.specs.Opening.{ArePlaces}
 use Rattle.plain_region.specs.Plain.{PlainValue}
 
@@ -22,5 +22,5 @@ pub record IsIn (net : Network) (chart : ChartLists) (region : PlainValue) : Typ
   pub charted : chart ≡ chart_of net chart.cut
   pub one_of : IsOf chart region
   pub in_time : region.state.step ≤ net.steps
-  pub ties : AreTies net (list_at chart.cells region.state.number) (halo_cells chart region.state.number)
-      (list_at chart.connectors region.state.number) region.body.ties
+  pub connectors : AreRegionConnectors net (list_at chart.cells region.state.number) (halo_cells chart region.state.number)
+      (list_at chart.connectors region.state.number) region.body.connectors

@@ -1,12 +1,12 @@
 -- A plain region as contracts see it.
 use Rattle.std.specs.Prelude.{ℕ, List}
 use Rattle.region_step.specs.Region.{RegionState}
-use Rattle.plain_region.specs.declared.tie.Tie.{Tie}
+use Rattle.plain_region.specs.declared.region_connector.RegionConnector.{RegionConnector}
 
 -- what a plain region found out about the network when it was opened
 pub record Body : Type 0 where
-  -- its connectors, with the places of their cells
-  pub ties : List Tie
+  -- its connectors, with where it finds their cells
+  pub connectors : List RegionConnector
   -- the place of each border cell among its cells
   pub border : List ℕ
 

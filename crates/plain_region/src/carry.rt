@@ -3,10 +3,10 @@ ghost use Rattle.network_file.specs.Connectors.{connector_at};
 ghost use Rattle.region_step.specs.Advance.{known};
 ghost use Rattle.plain_region.specs.Carrying.{CanCarry, IsAmong, IsChangeOf, IsScene, carried_of, change_at, moved_by, with_entering, with_leaving};
 
+use crate::cell_ref::CellRef;
 use crate::change::Change;
-use crate::place::Place;
-use crate::sight::Sight;
-use crate::tie::Tie;
+use crate::occupancies::Occupancies;
+use crate::region_connector::RegionConnector;
 use flow_model::{Flow, flow};
 use network_file::{Connector, Net};
 use region_cut::Halo;
@@ -15,36 +15,41 @@ use region_cut::Halo;
 pub(crate) fn carry_all(
     net: &Net,
     t: u64,
-    ties: &[Tie],
+    connectors: &[RegionConnector],
     cells: &[u32],
     halo: &[Halo],
-    sight: &Sight,
+    occupancies: &Occupancies,
     changes: &mut [Change],
 )
-    requires scene { IsScene net.now t cells.now (map (λ halo. halo.cell) halo.now) ties.now sight.now.rows.now sight.now.put.now }
+    requires scene { IsScene net.now t cells.now (map (λ halo. halo.cell) halo.now) connectors.now occupancies.now.rows.now occupancies.now.put.now }
     requires one_each { length changes.old ≡ length cells.now }
     ensures one_each { length changes.new ≡ length cells.now }
     ensures changes { (p : ℕ) → p < length cells.now → IsChangeOf net.now t
-        (known cells.now (map (λ halo. halo.cell) halo.now) sight.now.rows.now sight.now.put.now)
+        (known cells.now (map (λ halo. halo.cell) halo.now) occupancies.now.rows.now occupancies.now.put.now)
         (slice_index cells.now p) (change_at changes.new p) }
 {
     changes.fill(Change::NONE);
-    for tie in ties {
-        carry(net, t, tie, sight, changes);
+    for connector in connectors {
+        carry(net, t, connector, occupancies, changes);
     }
 }
 
 // One connector carries its flow of step `t`.
-fn carry(net: &Net, t: u64, tie: &Tie, sight: &Sight, changes: &mut [Change])
-    requires can { CanCarry net.now t tie.now sight.now.rows.now sight.now.put.now }
-    requires one_each { length changes.old ≡ length sight.now.rows.now }
-    ensures { changes.new ≡ moved_by (connector_at net.now.connectors tie.now.connector) tie.now
-        (carried_of net.now t tie.now sight.now.rows.now sight.now.put.now) changes.old }
+fn carry(
+    net: &Net,
+    t: u64,
+    connector: &RegionConnector,
+    occupancies: &Occupancies,
+    changes: &mut [Change],
+)
+    requires can { CanCarry net.now t connector.now occupancies.now.rows.now occupancies.now.put.now }
+    requires one_each { length changes.old ≡ length occupancies.now.rows.now }
+    ensures { changes.new ≡ moved_by (connector_at net.now.connectors connector.now.number) connector.now
+        (carried_of net.now t connector.now occupancies.now.rows.now occupancies.now.put.now) changes.old }
 {
-    let carried = carried(net, t, tie, sight);
-    let connector = net.connectors[tie.connector as usize];
-    let [a, b, c] = tie.cells;
-    match connector {
+    let carried = carried(net, t, connector, occupancies);
+    let [a, b, c] = connector.cells;
+    match net.connectors[connector.number as usize] {
         Connector::Link { .. } => {
             leave(changes, a, carried.out1);
             enter(changes, b, carried.in1);
@@ -63,31 +68,35 @@ fn carry(net: &Net, t: u64, tie: &Tie, sight: &Sight, changes: &mut [Change])
 }
 
 // What it carries.
-fn carried(net: &Net, t: u64, tie: &Tie, sight: &Sight) -> Flow
-    requires { CanCarry net.now t tie.now sight.now.rows.now sight.now.put.now }
-    ensures { result ≡ carried_of net.now t tie.now sight.now.rows.now sight.now.put.now }
+fn carried(net: &Net, t: u64, connector: &RegionConnector, occupancies: &Occupancies) -> Flow
+    requires { CanCarry net.now t connector.now occupancies.now.rows.now occupancies.now.put.now }
+    ensures { result ≡ carried_of net.now t connector.now occupancies.now.rows.now occupancies.now.put.now }
 {
-    let [a, b, c] = tie.cells;
-    let n = [sight.held(a), sight.held(b), sight.held(c)];
-    flow(net, t, tie.connector, n)
+    let [a, b, c] = connector.cells;
+    let n = [
+        occupancies.held(a),
+        occupancies.held(b),
+        occupancies.held(c),
+    ];
+    flow(net, t, connector.number, n)
 }
 
-// So many parts leave the cell at a place, where it is one of the region's own.
-fn leave(changes: &mut [Change], place: Place, parts: u64)
-    requires { IsAmong changes.old place }
-    ensures { changes.new ≡ with_leaving changes.old place parts }
+// So many parts leave a cell, where it is one of the region's own.
+fn leave(changes: &mut [Change], cell: CellRef, parts: u64)
+    requires { IsAmong changes.old cell }
+    ensures { changes.new ≡ with_leaving changes.old cell parts }
 {
-    if let Place::Own(p) = place {
+    if let CellRef::Own(p) = cell {
         changes[p as usize].leaves = parts;
     }
 }
 
 // So many parts enter it.
-fn enter(changes: &mut [Change], place: Place, parts: u64)
-    requires { IsAmong changes.old place }
-    ensures { changes.new ≡ with_entering changes.old place parts }
+fn enter(changes: &mut [Change], cell: CellRef, parts: u64)
+    requires { IsAmong changes.old cell }
+    ensures { changes.new ≡ with_entering changes.old cell parts }
 {
-    if let Place::Own(p) = place {
+    if let CellRef::Own(p) = cell {
         changes[p as usize].enters = parts;
     }
 }

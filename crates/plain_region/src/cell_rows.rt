@@ -3,10 +3,10 @@ ghost use Rattle.flow_model.specs.State.{occupancy, row_at, rows_after};
 
 use crate::carry::carry_all;
 use crate::change::Change;
+use crate::occupancies::Occupancies;
 use crate::opening::{earlier_rows, rows_of};
+use crate::region_connector::RegionConnector;
 use crate::rows::change_rows;
-use crate::sight::Sight;
-use crate::tie::Tie;
 use flow_model::Row;
 use network_file::Net;
 use no_memory::NoMemory;
@@ -89,20 +89,28 @@ impl CellRows {
         &mut self,
         net: &Net,
         t: u64,
-        ties: &[Tie],
+        connectors: &[RegionConnector],
         cells: &[u32],
         halo: &[Halo],
         put: &[Option<u64>],
     )
-        requires { IsScene net.now t cells.now (map (λ halo. halo.cell) halo.now) ties.now self.old.rows put.now }
+        requires { IsScene net.now t cells.now (map (λ halo. halo.cell) halo.now) connectors.now self.old.rows put.now }
         ensures rows { self.new.rows ≡ rows_after net.now t (known cells.now (map (λ halo. halo.cell) halo.now) self.old.rows put.now) cells.now self.old.rows }
         ensures before { self.new.before ≡ map (λ row. row.n) self.old.rows }
     {
-        let sight = Sight {
+        let occupancies = Occupancies {
             rows: &self.rows,
             put,
         };
-        carry_all(net, t, ties, cells, halo, &sight, &mut self.changes);
+        carry_all(
+            net,
+            t,
+            connectors,
+            cells,
+            halo,
+            &occupancies,
+            &mut self.changes,
+        );
         change_rows(net, t, cells, &self.rows, &self.changes, &mut self.last);
         mem::swap(&mut self.rows, &mut self.last);
     }

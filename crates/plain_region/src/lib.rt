@@ -6,15 +6,15 @@
 #![tactic(auto)]
 
 mod carry;
+mod cell_ref;
 mod cell_rows;
 mod change;
 mod notes;
+mod occupancies;
 mod opening;
-mod place;
 mod plain;
+mod region_connector;
 mod rows;
-mod sight;
-mod tie;
 mod wiring;
 
 pub use plain::PlainRegion;

@@ -49,7 +49,7 @@ impl Model for PlainRegion {
         trail = region.trail.items;
         put = region.put.items;
       };
-      body = record { ties = region.wiring.ties.items; border = region.wiring.border.items };
+      body = record { connectors = region.wiring.connectors.items; border = region.wiring.border.items };
     } };
 }
 
@@ -171,8 +171,14 @@ impl PlainRegion {
         let halo = layout.halo(self.number);
         let recorded = is_recorded(steps, self.every, self.step + 1);
         make_room(&mut self.trail, cells.len(), recorded)?;
-        self.cells
-            .step(net, self.step, &self.wiring.ties, cells, halo, &self.put);
+        self.cells.step(
+            net,
+            self.step,
+            &self.wiring.connectors,
+            cells,
+            halo,
+            &self.put,
+        );
         self.step += 1;
         note_step(&mut self.trail, self.cells.rows(), recorded);
         clear(&mut self.put);

@@ -29,7 +29,7 @@ pub change_rows-requires-clause-there : goal.change_rows-requires-clause-there
 change_rows-requires-clause-there c = λ p within.
     subst (λ changes. CanChangeAt c.args.net.now c.args.t c.args.cells.now c.deref-2.result.now changes p) (sym (changes-are c))
     (subst (λ rows. CanChangeAt c.args.net.now c.args.t c.args.cells.now rows c.carry_all.new.changes p) (sym (c.deref-2.ensures.value ∙ rows-are c))
-    (can_change c.args.net.now c.args.t c.args.cells.now (map (λ halo. halo.cell) c.args.halo.now) c.args.ties.now c.args.self.now.rows c.args.put.now c.carry_all.new.changes p c.requires within (each-is c p within)))
+    (can_change c.args.net.now c.args.t c.args.cells.now (map (λ halo. halo.cell) c.args.halo.now) c.args.connectors.now c.args.self.now.rows c.args.put.now c.carry_all.new.changes p c.requires within (each-is c p within)))
 
 pub returns-clause-rows : goal.returns-clause-rows
 returns-clause-rows c =

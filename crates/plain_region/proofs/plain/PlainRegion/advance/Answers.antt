@@ -20,7 +20,7 @@ step-requires c =
     (ap (λ region. region.state.step) c.self.view_is)
     (c.cells-cells.ensures.list ∙ ap (λ region. list_at c.args.layout.now.chart.cells region.state.number) c.self.view_is)
     (ap (map (λ halo. halo.cell)) c.halo-halo.ensures.list ∙ ap (λ region. halo_cells c.args.layout.now.chart region.state.number) c.self.view_is)
-    (c.deref.ensures.value ∙ ap (λ region. region.body.ties) c.self.view_is)
+    (c.deref.ensures.value ∙ ap (λ region. region.body.connectors) c.self.view_is)
     (ap (λ region. region.state.rows) c.self.view_is)
     (c.deref-2.ensures.value ∙ ap (λ region. region.state.put) c.self.view_is))
 
@@ -63,7 +63,7 @@ returns-clause-state c =
 pub returns-clause-opened : goal.returns-clause-opened
 returns-clause-opened c =
     advanced-inside c.args.layout.now.net c.args.layout.now.chart c.args.self.now _ c.requires.opened c.requires.in_time (returns-clause-state c)
-    (ap (λ region. region.body.ties) c.self.view_is) (ap (λ region. region.body.border) c.self.view_is)
+    (ap (λ region. region.body.connectors) c.self.view_is) (ap (λ region. region.body.border) c.self.view_is)
 
 pub returns-clause-bounds : goal.returns-clause-bounds
 returns-clause-bounds c =

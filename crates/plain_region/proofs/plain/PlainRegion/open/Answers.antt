@@ -64,7 +64,7 @@ returns-clause-opened c =
         border = c.in_ok-wiring.ensures.border;
       };
       in_time = step_within;
-      ties = c.in_ok-wiring.ensures.ties;
+      connectors = c.in_ok-wiring.ensures.connectors;
     }
 
 pub returns-clause-state : goal.returns-clause-state

@@ -5,39 +5,39 @@ use Rattle.region_cut.specs.Chart.{list_at}
 use Rattle.region_step.proofs.Ground.{ground-read}
 use Rattle.plain_region.proofs.wiring.Wiring.new.Goals as goal
 
-pub ties-requires-clause-there : goal.ties-requires-clause-there
-ties-requires-clause-there c =
+pub connectors_of-requires-clause-there : goal.connectors_of-requires-clause-there
+connectors_of-requires-clause-there c =
     rw c.net-net.ensures.network (ground-read c.args.layout.now.net c.args.layout.now.chart.cut c.args.layout.now.chart c.args.r c.cells-cells.result.now c.deref.result.now c.connectors.result.now (list_at c.args.layout.now.chart.border c.args.r)
     (subst IsNetwork (c.net.view_is ∙ c.net-net.ensures.network) c.net.invariant) c.net-net.ensures.charted c.requires.there c.cells-cells.ensures.list
     (c.deref.ensures.value ∙ c.in_ok-halo.ensures ∙ ap (map (λ other. other.cell)) c.halo.ensures.list) c.connectors.ensures refl).there
 
-pub ties-requires-clause-known : goal.ties-requires-clause-known
-ties-requires-clause-known c =
+pub connectors_of-requires-clause-known : goal.connectors_of-requires-clause-known
+connectors_of-requires-clause-known c =
     let here = ground-read c.args.layout.now.net c.args.layout.now.chart.cut c.args.layout.now.chart c.args.r c.cells-cells.result.now c.deref.result.now c.connectors.result.now (list_at c.args.layout.now.chart.border c.args.r)
     (subst IsNetwork (c.net.view_is ∙ c.net-net.ensures.network) c.net.invariant) c.net-net.ensures.charted c.requires.there c.cells-cells.ensures.list
     (c.deref.ensures.value ∙ c.in_ok-halo.ensures ∙ ap (map (λ other. other.cell)) c.halo.ensures.list) c.connectors.ensures refl in
     rw c.net-net.ensures.network λ j d within. record { each = (here.known j d within).each }
 
-pub ties-requires-clause-increasing : goal.ties-requires-clause-increasing
-ties-requires-clause-increasing c =
+pub connectors_of-requires-clause-increasing : goal.connectors_of-requires-clause-increasing
+connectors_of-requires-clause-increasing c =
     (ground-read c.args.layout.now.net c.args.layout.now.chart.cut c.args.layout.now.chart c.args.r c.cells-cells.result.now c.deref.result.now c.connectors.result.now (list_at c.args.layout.now.chart.border c.args.r)
     (subst IsNetwork (c.net.view_is ∙ c.net-net.ensures.network) c.net.invariant) c.net-net.ensures.charted c.requires.there c.cells-cells.ensures.list
     (c.deref.ensures.value ∙ c.in_ok-halo.ensures ∙ ap (map (λ other. other.cell)) c.halo.ensures.list) c.connectors.ensures refl).apart.rising
 
-pub ties-requires-clause-halo_increasing : goal.ties-requires-clause-halo_increasing
-ties-requires-clause-halo_increasing c =
+pub connectors_of-requires-clause-halo_increasing : goal.connectors_of-requires-clause-halo_increasing
+connectors_of-requires-clause-halo_increasing c =
     (ground-read c.args.layout.now.net c.args.layout.now.chart.cut c.args.layout.now.chart c.args.r c.cells-cells.result.now c.deref.result.now c.connectors.result.now (list_at c.args.layout.now.chart.border c.args.r)
     (subst IsNetwork (c.net.view_is ∙ c.net-net.ensures.network) c.net.invariant) c.net-net.ensures.charted c.requires.there c.cells-cells.ensures.list
     (c.deref.ensures.value ∙ c.in_ok-halo.ensures ∙ ap (map (λ other. other.cell)) c.halo.ensures.list) c.connectors.ensures refl).apart.halo_rising
 
-pub ties-requires-clause-few : goal.ties-requires-clause-few
-ties-requires-clause-few c =
+pub connectors_of-requires-clause-few : goal.connectors_of-requires-clause-few
+connectors_of-requires-clause-few c =
     (ground-read c.args.layout.now.net c.args.layout.now.chart.cut c.args.layout.now.chart c.args.r c.cells-cells.result.now c.deref.result.now c.connectors.result.now (list_at c.args.layout.now.chart.border c.args.r)
     (subst IsNetwork (c.net.view_is ∙ c.net-net.ensures.network) c.net.invariant) c.net-net.ensures.charted c.requires.there c.cells-cells.ensures.list
     (c.deref.ensures.value ∙ c.in_ok-halo.ensures ∙ ap (map (λ other. other.cell)) c.halo.ensures.list) c.connectors.ensures refl).few
 
-pub ties-requires-clause-few_halo : goal.ties-requires-clause-few_halo
-ties-requires-clause-few_halo c =
+pub connectors_of-requires-clause-few_halo : goal.connectors_of-requires-clause-few_halo
+connectors_of-requires-clause-few_halo c =
     (ground-read c.args.layout.now.net c.args.layout.now.chart.cut c.args.layout.now.chart c.args.r c.cells-cells.result.now c.deref.result.now c.connectors.result.now (list_at c.args.layout.now.chart.border c.args.r)
     (subst IsNetwork (c.net.view_is ∙ c.net-net.ensures.network) c.net.invariant) c.net-net.ensures.charted c.requires.there c.cells-cells.ensures.list
     (c.deref.ensures.value ∙ c.in_ok-halo.ensures ∙ ap (map (λ other. other.cell)) c.halo.ensures.list) c.connectors.ensures refl).few_halo

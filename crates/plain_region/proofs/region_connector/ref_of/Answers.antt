@@ -5,7 +5,7 @@ use Rattle.region_cut.proofs.HaloPlaces.{not_missing}
 use Rattle.region_cut.proofs.Membership.{place-in}
 use Rattle.region_body.specs.Joining.{IsKnown}
 use Rattle.region_body.proofs.Known.{listed}
-use Rattle.plain_region.proofs.tie.place_of.Goals as goal
+use Rattle.plain_region.proofs.region_connector.ref_of.Goals as goal
 
 -- one that is none of its own is one of its halo
 other_known : (cells halo : List ℕ) (i : ℕ) → IsKnown cells halo i → (list_any (λ j. j == i) cells ≡ true → ⊥) → Contains halo i

@@ -1,6 +1,6 @@
 /// Where a region finds a cell of one of its connectors.
 #[derive(Clone, Copy, Debug, PartialEq, Eq)]
-pub(crate) enum Place {
+pub(crate) enum CellRef {
     /// At this place among its own cells.
     Own(u32),
     /// At this place in its halo.

@@ -3,34 +3,34 @@ use Rattle.std.proofs.Common.{◌≡◌, ℕ, zero, suc, ◌<◌, [], ◌∷◌,
 use Rattle.network_file.specs.Connectors.{connector_at}
 use Rattle.network_file.proofs.NetworkFacts.{read_connector}
 use Rattle.region_cut.specs.ConnectorCells.{three_cells}
-use Rattle.plain_region.specs.Ties.{IsPlaceOf, place_at}
+use Rattle.plain_region.specs.RegionConnectors.{IsRefOf, ref_at}
 use Rattle.region_body.proofs.Known.{known_cell}
-use Rattle.plain_region.proofs.tie.tied.Goals as goal
+use Rattle.plain_region.proofs.region_connector.connector_of.Goals as goal
 
-pub place_of-requires-clause-known : goal.place_of-requires-clause-known
-place_of-requires-clause-known c =
+pub ref_of-requires-clause-known : goal.ref_of-requires-clause-known
+ref_of-requires-clause-known c =
     let read = read_connector c.net.inside.connectors.items c.args.net.now.connectors c.args.k c.index.result.now (ap (λ net. net.connectors) c.net.view_is) c.requires.there c.index.ensures in
     known_cell c.args.cells.now c.args.halo.now c.three_cells.result (connector_at c.args.net.now.connectors c.args.k) c.index.result.now 0 c.requires.known read c.three_cells.ensures.cells (omega arith)
 
-pub place_of-requires-2-clause-known : goal.place_of-requires-2-clause-known
-place_of-requires-2-clause-known c =
+pub ref_of-requires-2-clause-known : goal.ref_of-requires-2-clause-known
+ref_of-requires-2-clause-known c =
     let read = read_connector c.net.inside.connectors.items c.args.net.now.connectors c.args.k c.index.result.now (ap (λ net. net.connectors) c.net.view_is) c.requires.there c.index.ensures in
     known_cell c.args.cells.now c.args.halo.now c.three_cells.result (connector_at c.args.net.now.connectors c.args.k) c.index.result.now 1 c.requires.known read c.three_cells.ensures.cells (omega arith)
 
-pub place_of-requires-3-clause-known : goal.place_of-requires-3-clause-known
-place_of-requires-3-clause-known c =
+pub ref_of-requires-3-clause-known : goal.ref_of-requires-3-clause-known
+ref_of-requires-3-clause-known c =
     let read = read_connector c.net.inside.connectors.items c.args.net.now.connectors c.args.k c.index.result.now (ap (λ net. net.connectors) c.net.view_is) c.requires.there c.index.ensures in
     known_cell c.args.cells.now c.args.halo.now c.three_cells.result (connector_at c.args.net.now.connectors c.args.k) c.index.result.now 2 c.requires.known read c.three_cells.ensures.cells (omega arith)
 
-pub returns-clause-tie : goal.returns-clause-tie
-returns-clause-tie c =
+pub returns-clause-connector : goal.returns-clause-connector
+returns-clause-connector c =
     let read = read_connector c.net.inside.connectors.items c.args.net.now.connectors c.args.k c.index.result.now (ap (λ net. net.connectors) c.net.view_is) c.requires.there c.index.ensures in
     let three = c.three_cells.ensures.cells ∙ ap three_cells (sym read) in
-    record { there = c.requires.there; places = at three }
+    record { there = c.requires.there; refs = at three }
   where
     at : c.three_cells.result ≡ three_cells (connector_at c.args.net.now.connectors c.args.k) → (m : ℕ) → m < 3 →
-        IsPlaceOf c.args.cells.now c.args.halo.now (slice_index (three_cells (connector_at c.args.net.now.connectors c.args.k)) m) (place_at (record { connector = c.args.k; cells = c.place_of.result ∷ c.place_of-2.result ∷ c.place_of-3.result ∷ [] }) m)
-    at three zero few = subst (λ cs. IsPlaceOf c.args.cells.now c.args.halo.now (slice_index cs 0) c.place_of.result) three c.place_of.ensures
-    at three (suc zero) few = subst (λ cs. IsPlaceOf c.args.cells.now c.args.halo.now (slice_index cs 1) c.place_of-2.result) three c.place_of-2.ensures
-    at three (suc (suc zero)) few = subst (λ cs. IsPlaceOf c.args.cells.now c.args.halo.now (slice_index cs 2) c.place_of-3.result) three c.place_of-3.ensures
+        IsRefOf c.args.cells.now c.args.halo.now (slice_index (three_cells (connector_at c.args.net.now.connectors c.args.k)) m) (ref_at (record { number = c.args.k; cells = c.ref_of.result ∷ c.ref_of-2.result ∷ c.ref_of-3.result ∷ [] }) m)
+    at three zero few = subst (λ cs. IsRefOf c.args.cells.now c.args.halo.now (slice_index cs 0) c.ref_of.result) three c.ref_of.ensures
+    at three (suc zero) few = subst (λ cs. IsRefOf c.args.cells.now c.args.halo.now (slice_index cs 1) c.ref_of-2.result) three c.ref_of-2.ensures
+    at three (suc (suc zero)) few = subst (λ cs. IsRefOf c.args.cells.now c.args.halo.now (slice_index cs 2) c.ref_of-3.result) three c.ref_of-3.ensures
     at three (suc (suc (suc m))) few = absurd (omega arith)
