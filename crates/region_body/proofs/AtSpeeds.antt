@@ -1,6 +1,6 @@
 -- Places that send at the speeds of their cells.
-use Rattle.std.specs.Prelude.{◌||◌, ◌*◌, ◌/◌, Bool, min}
-use Rattle.std.proofs.Common.{◌≡◌, ℕ, ◌+◌, ◌-◌, ◌<◌, true, false, inl, inr, List, [], length, refl, sym, ap, ◌∙◌, zero-add, arith}
+use Rattle.std.specs.Prelude.{◌&&◌, ◌||◌, ◌*◌, ◌/◌, Bool, min}
+use Rattle.std.proofs.Common.{◌≡◌, ℕ, ◌+◌, ◌-◌, ◌<◌, true, false, inl, inr, List, [], length, refl, sym, ap, ◌∙◌, zero-add, arith, ◌≤◌}
 use Rattle.std.proofs.lemmas.Bool.{cases_Bool, cases_eq, cases_lt}
 use Rattle.std.proofs.lemmas.List.{get_or_past}
 use Rattle.std.proofs.lemmas.List.FromFn.{get_or-map-range_with_len, length-map-range_with_len}
@@ -8,7 +8,7 @@ use Rattle.signal_plan.specs.Speeds.{arriving}
 use Rattle.signal_plan.proofs.Laws.{arriving-own}
 use Rattle.ordinary_link.specs.LinkFlow.{link_flow_of}
 use Rattle.region_body.specs.Places.{carried, link_out, no_place, place_at}
-use Rattle.region_body.specs.SpeedZones.{end_before, is_slow_four, zone_at}
+use Rattle.region_body.specs.SpeedZones.{end_before, is_slow_four, is_whole_four, zone_at}
 use Rattle.connector_flow.specs.Space.{let_in}
 use Rattle.region_body.specs.Speeds.{CanSweep, at_speeds, slowed_place, ratio_at}
 use Rattle.region_body.specs.declared.speed_zone.SpeedZone.{SpeedZone}
@@ -88,8 +88,44 @@ pub free-behind : (places : List Place) (speeds : List (ℕ × ℕ)) (zones : Li
 free-behind places speeds zones can p from before =
     can.free p (omega (arith, before)) (free-four can.slow p (can.laid.rest (p / 4) (omega (arith, from)) (omega (arith, before))))
 
-pub few-slow : (places : List Place) (speeds : List (ℕ × ℕ)) (zones : List SpeedZone) → CanSweep places speeds zones → AreFew places speeds
-few-slow places speeds zones can p within other = elim (cases_Bool (can.slow p)) [
-  | inl slow ↦ can.few p within slow
-  | inr free ↦ absurd (other (can.free p within free))
-]
+all-of : (a b c d : Bool) → (a && b && c && d) ≡ true → (a ≡ true) × (b ≡ true) × (c ≡ true) × (d ≡ true)
+all-of false b c d all = cc
+all-of true false c d all = cc
+all-of true true false d all = cc
+all-of true true true false all = cc
+all-of true true true true all = (refl, refl, refl, refl)
+
+-- a place in a four that is slow as a whole is slow
+whole-four : (slow : ℕ → Bool) (p : ℕ) → is_whole_four slow (p / 4) ≡ true → slow p ≡ true
+whole-four slow p whole =
+    let m : ℕ = p / 4 in
+    let all = all-of (slow (4 * m)) (slow (4 * m + 1)) (slow (4 * m + 2)) (slow (4 * m + 3)) whole in
+    elim (cases_eq p (4 * m)) [
+      | inl first ↦ rw first all.0
+      | inr a ↦ elim (cases_eq p (4 * m + 1)) [
+        | inl second ↦ rw second all.1
+        | inr b ↦ elim (cases_eq p (4 * m + 2)) [
+          | inl third ↦ rw third all.2
+          | inr c ↦ let fourth : p ≡ 4 * m + 3 = omega (arith, a, b, c) in rw fourth all.3
+        ]
+      ]
+    ]
+
+-- where a place is asked for its speed
+pub few-asked : (places : List Place) (speeds : List (ℕ × ℕ)) (zones : List SpeedZone) (from to : ℕ) → CanSweep places speeds zones → to ≤ length places →
+    AreFew places speeds false from to
+few-asked places speeds zones from to can there p begun before other =
+    let within : p < length places = omega (arith, before, there) in
+    elim (cases_Bool (can.slow p)) [
+      | inl slow ↦ can.few p within slow
+      | inr free ↦ absurd (other refl (can.free p within free))
+    ]
+
+pub few-in : (places : List Place) (speeds : List (ℕ × ℕ)) (zones : List SpeedZone) (k : ℕ) → CanSweep places speeds zones → k < length zones →
+    AreFew places speeds (zone_at zones k).whole (4 * (zone_at zones k).from) (4 * (zone_at zones k).to)
+few-in places speeds zones k can within p from before other =
+    let there : p < length places = omega (arith, before, can.laid.within k within) in
+    elim (cases_Bool (zone_at zones k).whole) [
+      | inl whole ↦ can.few p there (whole-four can.slow p (can.laid.whole k (p / 4) within (omega (arith, from)) (omega (arith, before)) ∙ whole))
+      | inr asked ↦ few-asked places speeds zones p (p + 1) can (omega (arith, there)) p (omega arith) (omega arith) (λ _. other asked)
+    ]

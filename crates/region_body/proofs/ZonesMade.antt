@@ -2,23 +2,26 @@
 use Rattle.std.proofs.Common.{◌≡◌, ℕ, zero, suc, ◌+◌, ◌<◌, ◌≤◌, Bool, true, false, inl, inr, List, [], ◌∷◌, ◌++◌, length, add-one, refl, ap, ◌∙◌, subst, arith}
 use Rattle.std.proofs.lemmas.Bool.{cases_lt}
 use Rattle.std.proofs.lemmas.List.{get_or_append_left, get_or_push, length-append}
-use Rattle.region_body.specs.SpeedZones.{AreZones, end_before, zone_at}
+use Rattle.region_body.specs.SpeedZones.{AreZones, end_before, is_slow_four, is_whole_four, zone_at}
 use Rattle.region_body.specs.declared.speed_zone.SpeedZone.{SpeedZone}
 
 abbrev no_zone : SpeedZone
-no_zone = record { from = 0; to = 0 }
+no_zone = record { from = 0; to = 0; whole = false }
 
--- the zones before four p, of which one that isn't ended begins at `from`
-pub record AreZonesTo (slow : ℕ → Bool) (from p : ℕ) (zones : List SpeedZone) : Type 0 where
+-- the zones before four p; the fours from `from` on up to it are alike, and end no zone yet
+pub record AreZonesTo (slow every : ℕ → Bool) (from p : ℕ) (any all : Bool) (zones : List SpeedZone) : Type 0 where
   pub come : from ≤ p
+  pub begun : any ≡ true → from < p
   pub order : (k : ℕ) → k < length zones → end_before zones k ≤ (zone_at zones k).from
   pub some : (k : ℕ) → k < length zones → (zone_at zones k).from < (zone_at zones k).to
-  pub within : (k : ℕ) → k < length zones → (zone_at zones k).to ≤ p
+  pub within : (k : ℕ) → k < length zones → (zone_at zones k).to ≤ from
   pub inside : (k q : ℕ) → k < length zones → (zone_at zones k).from ≤ q → q < (zone_at zones k).to → slow q ≡ true
+  pub whole : (k q : ℕ) → k < length zones → (zone_at zones k).from ≤ q → q < (zone_at zones k).to → every q ≡ (zone_at zones k).whole
   pub free : (k q : ℕ) → k < length zones → end_before zones k ≤ q → q < (zone_at zones k).from → slow q ≡ false
   pub behind : end_before zones (length zones) ≤ from
   pub rest : (q : ℕ) → end_before zones (length zones) ≤ q → q < from → slow q ≡ false
-  pub going : (q : ℕ) → from ≤ q → q < p → slow q ≡ true
+  pub any_slow : (q : ℕ) → from ≤ q → q < p → slow q ≡ any
+  pub all_slow : (q : ℕ) → from ≤ q → q < p → every q ≡ all
 
 zone-early : (zones : List SpeedZone) (zone : SpeedZone) (k : ℕ) → k < length zones → zone_at (zones ++ zone ∷ []) k ≡ zone_at zones k
 zone-early zones zone k within = get_or_append_left zones (zone ∷ []) no_zone k within
@@ -33,47 +36,62 @@ end-last zones zone =
     ∙ ap (λ zone. zone.to) (get_or_push zones zone no_zone (length zones) refl)
 
 -- no zone yet
-pub zones-none : (slow : ℕ → Bool) → AreZonesTo slow 0 0 []
-zones-none slow = record {
+pub zones-none : (slow every : ℕ → Bool) → AreZonesTo slow every 0 0 false false []
+zones-none slow every = record {
   come = omega arith;
+  begun = λ never. cc;
   order = λ k within. absurd (omega (arith, within));
   some = λ k within. absurd (omega (arith, within));
   within = λ k within. absurd (omega (arith, within));
   inside = λ k q within. absurd (omega (arith, within));
+  whole = λ k q within. absurd (omega (arith, within));
   free = λ k q within. absurd (omega (arith, within));
   behind = omega arith;
   rest = λ q from before. absurd (omega (arith, before));
-  going = λ q from before. absurd (omega (arith, before));
+  any_slow = λ q from before. absurd (omega (arith, before));
+  all_slow = λ q from before. absurd (omega (arith, before));
 }
 
--- one four more of the zone that isn't ended
-pub zones-grown : (slow : ℕ → Bool) (from p : ℕ) (zones : List SpeedZone) → AreZonesTo slow from p zones → slow p ≡ true → AreZonesTo slow from (p + 1) zones
-zones-grown slow from p zones are is = record {
+-- the next four is like those before
+pub zones-grown : (slow every : ℕ → Bool) (from p : ℕ) (any all : Bool) (zones : List SpeedZone) → AreZonesTo slow every from p any all zones →
+    slow p ≡ any → every p ≡ all → AreZonesTo slow every from (p + 1) any all zones
+zones-grown slow every from p any all zones are some full = record {
   come = omega (arith, are.come);
+  begun = λ _. omega (arith, are.come);
   order = are.order;
   some = are.some;
-  within = λ k within. omega (arith, are.within k within);
+  within = are.within;
   inside = are.inside;
+  whole = are.whole;
   free = are.free;
   behind = are.behind;
   rest = are.rest;
-  going = λ q begun before. elim (cases_lt q p) [
-    | inl early ↦ are.going q begun early
-    | inr late ↦ let e : p ≡ q = omega (arith, late, before) in subst (λ q. slow q ≡ true) e is
+  any_slow = λ q begun before. elim (cases_lt q p) [
+    | inl early ↦ are.any_slow q begun early
+    | inr late ↦ let e : p ≡ q = omega (arith, late, before) in subst (λ q. slow q ≡ any) e some
+  ];
+  all_slow = λ q begun before. elim (cases_lt q p) [
+    | inl early ↦ are.all_slow q begun early
+    | inr late ↦ let e : p ≡ q = omega (arith, late, before) in subst (λ q. every q ≡ all) e full
   ];
 }
 
--- a zone that ends at p
-pub zones-ended : (slow : ℕ → Bool) (from p : ℕ) (zones : List SpeedZone) → AreZonesTo slow from p zones → from < p →
-    AreZonesTo slow p p (zones ++ record { from = from; to = p } ∷ [])
-zones-ended slow from p zones are some =
-    let zone : SpeedZone = record { from = from; to = p } in
+only : (f : ℕ → Bool) (p q : ℕ) → p ≤ q → q < p + 1 → f q ≡ f p
+only f p q from before = let e : q ≡ p = omega (arith, from, before) in ap f e
+
+-- it is not, and a zone ends before it
+pub zones-ended : (slow every : ℕ → Bool) (from p : ℕ) (all : Bool) (zones : List SpeedZone) → AreZonesTo slow every from p true all zones →
+    AreZonesTo slow every p (p + 1) (slow p) (every p) (zones ++ record { from = from; to = p; whole = all } ∷ [])
+zones-ended slow every from p all_of zones are =
+    let zone : SpeedZone = record { from = from; to = p; whole = all_of } in
     let all = zones ++ zone ∷ [] in
+    let some : from < p = are.begun refl in
     let long : length all ≡ length zones + 1 = length-append zones (zone ∷ []) in
     let end = end-last zones zone in
     let last : zone_at all (length zones) ≡ zone = get_or_push zones zone no_zone (length zones) refl in
     record {
       come = omega arith;
+      begun = λ _. omega arith;
       order = λ k within. elim (cases_lt k (length zones)) [
         | inl early ↦ rw (zone-early zones zone k early, end-early zones zone k (omega (arith, early))) (are.order k early)
         | inr late ↦
@@ -85,7 +103,7 @@ zones-ended slow from p zones are some =
         | inr late ↦ let e : k ≡ length zones = omega (arith, late, within, long) in rw (e, last) some
       ];
       within = λ k within. elim (cases_lt k (length zones)) [
-        | inl early ↦ rw (zone-early zones zone k early) (are.within k early)
+        | inl early ↦ rw (zone-early zones zone k early) (omega (arith, are.within k early, some))
         | inr late ↦ let e : k ≡ length zones = omega (arith, late, within, long) in rw (e, last) (omega arith)
       ];
       inside = λ k q within begun before. elim (cases_lt k (length zones)) [
@@ -93,7 +111,15 @@ zones-ended slow from p zones are some =
             are.inside k q early (rw (zone-early zones zone k early) at begun) (rw (zone-early zones zone k early) at before)
         | inr late ↦
             let e : k ≡ length zones = omega (arith, late, within, long) in
-            are.going q (rw (e, last) at begun) (rw (e, last) at before)
+            are.any_slow q (rw (e, last) at begun) (rw (e, last) at before)
+      ];
+      whole = λ k q within begun before. elim (cases_lt k (length zones)) [
+        | inl early ↦
+            rw (zone-early zones zone k early)
+            (are.whole k q early (rw (zone-early zones zone k early) at begun) (rw (zone-early zones zone k early) at before))
+        | inr late ↦
+            let e : k ≡ length zones = omega (arith, late, within, long) in
+            rw (e, last) (are.all_slow q (rw (e, last) at begun) (rw (e, last) at before))
       ];
       free = λ k q within begun before. elim (cases_lt k (length zones)) [
         | inl early ↦
@@ -104,33 +130,40 @@ zones-ended slow from p zones are some =
       ];
       behind = omega (arith, end);
       rest = λ q begun before. absurd (omega (arith, begun, before, end));
-      going = λ q begun before. absurd (omega (arith, begun, before));
+      any_slow = λ q begun before. only slow p q begun before;
+      all_slow = λ q begun before. only every p q begun before;
     }
 
--- a four that is in no zone
-pub zones-passed : (slow : ℕ → Bool) (p : ℕ) (zones : List SpeedZone) → AreZonesTo slow p p zones → slow p ≡ false → AreZonesTo slow (p + 1) (p + 1) zones
-zones-passed slow p zones are free = record {
+-- it is not, and those before are in no zone
+pub zones-passed : (slow every : ℕ → Bool) (from p : ℕ) (all : Bool) (zones : List SpeedZone) → AreZonesTo slow every from p false all zones →
+    AreZonesTo slow every p (p + 1) (slow p) (every p) zones
+zones-passed slow every from p all zones are = record {
   come = omega arith;
+  begun = λ _. omega arith;
   order = are.order;
   some = are.some;
-  within = λ k within. omega (arith, are.within k within);
+  within = λ k within. omega (arith, are.within k within, are.come);
   inside = are.inside;
+  whole = are.whole;
   free = are.free;
-  behind = omega (arith, are.behind);
-  rest = λ q begun before. elim (cases_lt q p) [
+  behind = omega (arith, are.behind, are.come);
+  rest = λ q begun before. elim (cases_lt q from) [
     | inl early ↦ are.rest q begun early
-    | inr late ↦ let e : p ≡ q = omega (arith, late, before) in subst (λ q. slow q ≡ false) e free
+    | inr late ↦ are.any_slow q late before
   ];
-  going = λ q begun before. absurd (omega (arith, begun, before));
+  any_slow = λ q begun before. only slow p q begun before;
+  all_slow = λ q begun before. only every p q begun before;
 }
 
--- all that end
-pub zones-all : (slow : ℕ → Bool) (p : ℕ) (zones : List SpeedZone) → AreZonesTo slow p p zones → AreZones slow p zones
-zones-all slow p zones are = record {
+-- all of them
+pub zones-all : (slow : ℕ → Bool) (p : ℕ) (any all : Bool) (zones : List SpeedZone) →
+    AreZonesTo (is_slow_four slow) (is_whole_four slow) p (p + 1) any all zones → AreZones slow p zones
+zones-all slow p any all zones are = record {
   order = are.order;
   some = are.some;
   within = are.within;
   inside = are.inside;
+  whole = are.whole;
   free = are.free;
   rest = are.rest;
 }

@@ -20,7 +20,7 @@ use Rattle.region_body.specs.Joining.{AreKnown}
 use Rattle.region_body.specs.Moves.{AreConnected, IsSeen}
 use Rattle.region_body.specs.Pausing.{IsPauseOf}
 use Rattle.region_body.specs.Rows.{IsOf, constants_at, rows_of}
-use Rattle.region_body.specs.SpeedZones.{AreZones, is_slow_four}
+use Rattle.region_body.specs.SpeedZones.{AreZones}
 use Rattle.region_body.specs.Speeds.{AreSpeedsOf, is_slow}
 use Rattle.region_body.specs.declared.followed_speed.FollowedSpeed.{FollowedSpeed}
 use Rattle.region_body.specs.declared.speed_zone.SpeedZone.{SpeedZone}
@@ -67,7 +67,7 @@ pub record ArePlaced (net : Network) (cells halo connectors : List ℕ) (t : ℕ
   pub demands : All (IsGateOf net cells t) placed.gates
   pub links : All (IsLinkThere (length placed.places) t) placed.links
   pub speeds : AreSpeedsOf net cells placed.speed_courses placed.speeds t placed.speeds_until
-  pub zones : AreZones (is_slow_four (is_slow net cells)) ((length cells - 1) / 4) placed.zones
+  pub zones : AreZones (is_slow net cells) ((length cells - 1) / 4) placed.zones
   pub followed : AreFollowed (most_out net cells connectors) placed.places placed.links t
   pub pause : IsPauseOf placed.places placed.before placed.speeds placed.speeds_until placed.links placed.connectors placed.seen t placed.pause
   pub seen_each : length placed.seen ≡ length halo

@@ -6,7 +6,7 @@ use Rattle.network_file.specs.Cells.{is_exit_at}
 use Rattle.network_file.specs.Network.{Network}
 use Rattle.courses.specs.Courses.{value_at}
 use Rattle.region_body.specs.Places.{place_at}
-use Rattle.region_body.specs.SpeedZones.{AreZones, is_slow_four}
+use Rattle.region_body.specs.SpeedZones.{AreZones}
 use Rattle.region_body.specs.declared.followed_speed.FollowedSpeed.{FollowedSpeed}
 use Rattle.region_body.specs.declared.place.Place.{Place}
 use Rattle.region_body.specs.declared.speed_zone.SpeedZone.{SpeedZone}
@@ -27,7 +27,7 @@ at_speeds places speeds = map (λ p. slowed_place (place_at places p) (ratio_at 
 -- and where it isn't 1/1 its factor will do
 pub record CanSweep (places : List Place) (speeds : List (ℕ × ℕ)) (zones : List SpeedZone) : Type 0 where
   pub slow : ℕ → Bool
-  pub laid : AreZones (is_slow_four slow) ((length places - 1) / 4) zones
+  pub laid : AreZones slow ((length places - 1) / 4) zones
   pub free : (p : ℕ) → p < length places → slow p ≡ false → ratio_at speeds p ≡ (1, 1)
   pub known : (p : ℕ) → p < length speeds → length places ≤ length speeds
   pub few : (p : ℕ) → p < length places → slow p ≡ true → (place_at places p).n < 2 ^ 53

@@ -1,5 +1,5 @@
 -- A sweep of places on its way from the first to the last.
-use Rattle.std.specs.Prelude.{◌≡◌, ◌≢◌, ℕ, ◌+◌, ◌<◌, ◌≤◌, ◌^◌, List, length, slice_index}
+use Rattle.std.specs.Prelude.{◌≡◌, ◌≢◌, Bool, false, ℕ, ◌+◌, ◌<◌, ◌≤◌, ◌^◌, List, length, slice_index}
 use Rattle.region_body.specs.Places.{AreSound, link_in, place_at, swept}
 use Rattle.region_body.specs.Speeds.{at_speeds, ratio_at}
 use Rattle.region_body.specs.declared.place.Place.{Place}
@@ -18,6 +18,6 @@ pub record IsSweptTo (first : List Place) (speeds : List (ℕ × ℕ)) (p : ℕ)
 abbrev pub IsFree : (speeds : List (ℕ × ℕ)) → (from to : ℕ) → Type 0
 IsFree speeds from to = (p : ℕ) → from ≤ p → p < to → ratio_at speeds p ≡ (1, 1)
 
--- where a speed isn't the road's own, the place holds so little that its factor will do
-abbrev pub AreFew : List Place → (speeds : List (ℕ × ℕ)) → Type 0
-AreFew places speeds = (p : ℕ) → p < length places → ratio_at speeds p ≢ (1, 1) → (place_at places p).n < 2 ^ 53
+-- these places hold so little that the factors of speeds will do: all places of a whole zone, else those whose speed isn't the road's own
+abbrev pub AreFew : List Place → (speeds : List (ℕ × ℕ)) → (whole : Bool) → (from to : ℕ) → Type 0
+AreFew places speeds whole from to = (p : ℕ) → from ≤ p → p < to → (whole ≡ false → ratio_at speeds p ≢ (1, 1)) → (place_at places p).n < 2 ^ 53

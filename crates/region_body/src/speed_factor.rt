@@ -1,4 +1,4 @@
-ghost use Rattle.std.specs.Prelude.{◌≡◌, ◌≢◌, ◌<◌, ◌≤◌, ◌^◌};
+ghost use Rattle.std.specs.Prelude.{◌≡◌, ◌≢◌, ◌<◌, ◌≤◌, ◌^◌, false};
 ghost use Rattle.signal_plan.specs.Speeds.{IsSpeed, arriving};
 
 use flow_model::arriving;
@@ -54,14 +54,14 @@ impl SpeedFactor {
         arriving((self.num, self.den), n)
     }
 
-    /// The same of so few parts that the factor will do. Where it is 1/1 there is no product.
+    /// The same of so few parts that the factor will do. At 1/1 there is no product, unless the cell is known to be slow.
     #[inline(always)]
-    pub(crate) fn arriving_of_few(self, n: u64) -> u64
-        requires few { self ≢ (1, 1) → n < 2 ^ 53 }
+    pub(crate) fn arriving_of_few(self, n: u64, slow: bool) -> u64
+        requires few { (slow ≡ false → self ≢ (1, 1)) → n < 2 ^ 53 }
         ensures flow { result ≡ arriving self n }
         ensures held { result ≤ n }
     {
-        if self.den == 1 {
+        if !slow && self.den == 1 {
             n
         } else {
             self.arriving_by_factor(n)

@@ -1,5 +1,5 @@
-ghost use Rattle.std.specs.Prelude.{◌≡◌, ◌+◌, ◌-◌, ◌*◌, ◌/◌, ◌<◌, ◌≤◌, ℕ, All, IfOk, length};
-ghost use Rattle.region_body.specs.SpeedZones.{AreZones, is_slow_four};
+ghost use Rattle.std.specs.Prelude.{◌≡◌, ◌+◌, ◌-◌, ◌*◌, ◌/◌, ◌<◌, ◌≤◌, ℕ, All, IfOk, length, true};
+ghost use Rattle.region_body.specs.SpeedZones.{AreZones, is_slow_four, is_whole_four};
 ghost use Rattle.region_body.specs.Speeds.{is_slow};
 
 use crate::slow_cell::is_slow;
@@ -15,29 +15,50 @@ pub(crate) struct SpeedZone {
     pub(crate) from: usize,
     /// The one behind the last.
     pub(crate) to: usize,
+    /// Whether all their cells have some.
+    pub(crate) whole: bool,
 }
 
 /// The zones of these cells, as they are placed, in the whole fours before the last cell, out of which no link to a next one
 /// leads.
 pub(crate) fn zones_of(alloc: Global, net: &Net, cells: &[u32]) -> Result<Vec<SpeedZone>, NoMemory>
     requires there { All (λ i. i < length net.now.cells) cells.now }
-    ensures { IfOk result (λ zones. AreZones (is_slow_four (is_slow net.now cells.now)) ((length cells.now - 1) / 4) zones.items) }
+    ensures { IfOk result (λ zones. AreZones (is_slow net.now cells.now) ((length cells.now - 1) / 4) zones.items) }
 {
     let fours = cells.len().saturating_sub(1) / 4;
     let mut zones = Vec::new(alloc);
+    // The fours from here on are alike so far.
     let mut from = 0;
+    let mut slow = false;
+    let mut whole = false;
     for m in 0..fours {
-        if !is_slow_four(net, cells, m) {
-            if from < m {
-                zones.push(SpeedZone { from, to: m })?;
+        let some = is_slow_four(net, cells, m);
+        let all = is_whole_four(net, cells, m);
+        if !alike(some, all, slow, whole) {
+            if slow {
+                zones.push(SpeedZone { from, to: m, whole })?;
             }
-            from = m + 1;
+            from = m;
+            slow = some;
+            whole = all;
         }
     }
-    if from < fours {
-        zones.push(SpeedZone { from, to: fours })?;
+    if slow {
+        zones.push(SpeedZone {
+            from,
+            to: fours,
+            whole,
+        })?;
     }
     Ok(zones)
+}
+
+// Whether two fours are alike.
+fn alike(some: bool, all: bool, slow: bool, whole: bool) -> bool
+    ensures some { result ≡ true → some ≡ slow }
+    ensures all { result ≡ true → all ≡ whole }
+{
+    some == slow && all == whole
 }
 
 // Whether a cell of the `m`-th four has speed records and is no exit.
@@ -51,4 +72,17 @@ fn is_slow_four(net: &Net, cells: &[u32], m: usize) -> bool
         || is_slow(net, cells, p + 1)
         || is_slow(net, cells, p + 2)
         || is_slow(net, cells, p + 3)
+}
+
+// Whether all of them do.
+fn is_whole_four(net: &Net, cells: &[u32], m: usize) -> bool
+    requires within { 4 * m + 4 ≤ length cells.now }
+    requires there { All (λ i. i < length net.now.cells) cells.now }
+    ensures { result ≡ is_whole_four (is_slow net.now cells.now) m }
+{
+    let p = 4 * m;
+    is_slow(net, cells, p)
+        && is_slow(net, cells, p + 1)
+        && is_slow(net, cells, p + 2)
+        && is_slow(net, cells, p + 3)
 }

@@ -1,5 +1,5 @@
 ghost use Rattle.std.specs.Prelude.{◌≡◌, ◌-◌, ◌/◌, ◌<◌, ◌^◌, ℕ, All, IfOk, length, true};
-ghost use Rattle.region_body.specs.SpeedZones.{AreZones, is_slow_four};
+ghost use Rattle.region_body.specs.SpeedZones.{AreZones};
 ghost use Rattle.region_body.specs.Speeds.{AreSpeedsOf, IsSpeedOpened, is_listed, is_slow};
 
 use crate::followed_speed::FollowedSpeed;
@@ -27,7 +27,7 @@ pub(crate) fn speeds_of(alloc: Global, net: &Net, cells: &[u32]) -> Result<Speed
     requires there { All (λ i. i < length net.now.cells) cells.now }
     requires few { length cells.now < 2 ^ 32 }
     ensures speeds { IfOk result (λ speeds. (t : ℕ) → AreSpeedsOf net.now cells.now speeds.courses.items speeds.now.items t 0) }
-    ensures zones { IfOk result (λ speeds. AreZones (is_slow_four (is_slow net.now cells.now)) ((length cells.now - 1) / 4) speeds.zones.items) }
+    ensures zones { IfOk result (λ speeds. AreZones (is_slow net.now cells.now) ((length cells.now - 1) / 4) speeds.zones.items) }
 {
     let _steps = net.steps;
     let courses = courses_of(alloc, net, cells)?;

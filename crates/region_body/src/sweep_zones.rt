@@ -1,4 +1,4 @@
-ghost use Rattle.std.specs.Prelude.{◌≡◌, ◌≢◌, ◌+◌, ◌*◌, ◌<◌, ◌≤◌, ◌^◌, ℕ, List, length};
+ghost use Rattle.std.specs.Prelude.{◌≡◌, ◌≢◌, false, ◌+◌, ◌*◌, ◌<◌, ◌≤◌, ◌^◌, ℕ, List, length};
 ghost use Rattle.region_body.specs.Places.{AreSound, carried, place_at};
 ghost use Rattle.region_body.specs.Speeds.{CanSweep, slowed_place};
 ghost use Rattle.region_body.specs.Sweeping.{AreFew, IsSweptTo};
@@ -31,17 +31,41 @@ pub(crate) fn sweep_zones(
     let mut m = 0;
     for zone in zones {
         flow = sweep_fours(places, before, m, zone.from, flow);
-        flow = slowed_fours(places, speeds, before, zone.from, zone.to, flow);
+        flow = sweep_zone(places, speeds, before, zone, flow);
         m = zone.to;
     }
     flow = sweep_fours(places, before, m, fours, flow);
     for p in 4 * fours..last {
-        flow = slowed_one(places, speeds, before, p, flow);
+        flow = slowed_one(places, speeds, before, p, false, flow);
     }
     flow
 }
 
-// Takes the fours from one up to another.
+// Takes the fours of a zone. Each of the two loops is made for itself: where all cells are slow none is asked.
+#[inline(always)]
+fn sweep_zone(
+    places: &mut [Place],
+    speeds: &[SpeedFactor],
+    before: &mut [u64],
+    zone: &SpeedZone,
+    enters: u64,
+) -> u64
+    requires forward { zone.now.from ≤ zone.now.to }
+    requires there { 4 * zone.now.to < length places.old }
+    requires known { length places.old ≤ length speeds.now }
+    requires one_each { length before.old ≡ length places.old }
+    requires swept { (first : List PlaceValue) × IsSweptTo first speeds.now (4 * zone.now.from) places.old before.old enters × AreFew first speeds.now zone.now.whole (4 * zone.now.from) (4 * zone.now.to) }
+    ensures { (first : List PlaceValue) → IsSweptTo first speeds.now (4 * zone.now.from) places.old before.old enters →
+        IsSweptTo first speeds.now (4 * zone.now.to) places.new before.new result }
+{
+    if zone.whole {
+        slowed_fours(places, speeds, before, zone.from, zone.to, true, enters)
+    } else {
+        slowed_fours(places, speeds, before, zone.from, zone.to, false, enters)
+    }
+}
+
+// Takes the fours from one up to another, of whole zones or of others.
 #[inline(always)]
 fn slowed_fours(
     places: &mut [Place],
@@ -49,19 +73,20 @@ fn slowed_fours(
     before: &mut [u64],
     from: usize,
     to: usize,
+    whole: bool,
     enters: u64,
 ) -> u64
     requires forward { from ≤ to }
     requires there { 4 * to < length places.old }
     requires known { length places.old ≤ length speeds.now }
     requires one_each { length before.old ≡ length places.old }
-    requires swept { (first : List PlaceValue) × IsSweptTo first speeds.now (4 * from) places.old before.old enters × AreFew first speeds.now }
+    requires swept { (first : List PlaceValue) × IsSweptTo first speeds.now (4 * from) places.old before.old enters × AreFew first speeds.now whole (4 * from) (4 * to) }
     ensures { (first : List PlaceValue) → IsSweptTo first speeds.now (4 * from) places.old before.old enters →
         IsSweptTo first speeds.now (4 * to) places.new before.new result }
 {
     let mut flow = enters;
     for m in from..to {
-        flow = slowed_four(places, speeds, before, 4 * m, flow);
+        flow = slowed_four(places, speeds, before, 4 * m, whole, flow);
     }
     flow
 }
@@ -73,19 +98,20 @@ fn slowed_four(
     speeds: &[SpeedFactor],
     before: &mut [u64],
     p: usize,
+    whole: bool,
     enters: u64,
 ) -> u64
     requires there { p + 4 < length places.old }
     requires known { length places.old ≤ length speeds.now }
     requires one_each { length before.old ≡ length places.old }
-    requires swept { (first : List PlaceValue) × IsSweptTo first speeds.now p places.old before.old enters × AreFew first speeds.now }
+    requires swept { (first : List PlaceValue) × IsSweptTo first speeds.now p places.old before.old enters × AreFew first speeds.now whole p (p + 4) }
     ensures { (first : List PlaceValue) → IsSweptTo first speeds.now p places.old before.old enters →
         IsSweptTo first speeds.now (p + 4) places.new before.new result }
 {
-    let second = slowed_one(places, speeds, before, p, enters);
-    let third = slowed_one(places, speeds, before, p + 1, second);
-    let fourth = slowed_one(places, speeds, before, p + 2, third);
-    slowed_one(places, speeds, before, p + 3, fourth)
+    let second = slowed_one(places, speeds, before, p, whole, enters);
+    let third = slowed_one(places, speeds, before, p + 1, whole, second);
+    let fourth = slowed_one(places, speeds, before, p + 2, whole, third);
+    slowed_one(places, speeds, before, p + 3, whole, fourth)
 }
 
 // Takes the place of this number, which so much enters, and gives what leaves it for the next one.
@@ -95,16 +121,17 @@ fn slowed_one(
     speeds: &[SpeedFactor],
     before: &mut [u64],
     p: usize,
+    whole: bool,
     enters: u64,
 ) -> u64
     requires there { p + 1 < length places.old }
     requires known { length places.old ≤ length speeds.now }
     requires one_each { length before.old ≡ length places.old }
-    requires swept { (first : List PlaceValue) × IsSweptTo first speeds.now p places.old before.old enters × AreFew first speeds.now }
+    requires swept { (first : List PlaceValue) × IsSweptTo first speeds.now p places.old before.old enters × AreFew first speeds.now whole p (p + 1) }
     ensures { (first : List PlaceValue) → IsSweptTo first speeds.now p places.old before.old enters →
         IsSweptTo first speeds.now (p + 1) places.new before.new result }
 {
-    let leaves = carried_slowed(&places[p], &places[p + 1], speeds[p]);
+    let leaves = carried_slowed(&places[p], &places[p + 1], speeds[p], whole);
     let held = places[p].n;
     places[p].step(enters, leaves);
     before[p] = held;
@@ -113,13 +140,13 @@ fn slowed_one(
 
 // What the link out of a place carries at this speed.
 #[inline(always)]
-fn carried_slowed(place: &Place, next: &Place, speed: SpeedFactor) -> u64
-    requires few { speed ≢ (1, 1) → place.now.n < 2 ^ 53 }
+fn carried_slowed(place: &Place, next: &Place, speed: SpeedFactor, whole: bool) -> u64
+    requires few { (whole ≡ false → speed ≢ (1, 1)) → place.now.n < 2 ^ 53 }
     requires fits { next.now.n ≤ next.now.space.storage }
     ensures flow { result ≡ carried (slowed_place place.now speed) next.now }
     ensures held { result ≤ place.now.n }
     ensures fits { next.now.n + result < 2 ^ 64 }
 {
-    let sent = place.most.min(speed.arriving_of_few(place.n));
+    let sent = place.most.min(speed.arriving_of_few(place.n, whole));
     sent.min(next.space.let_in(next.n))
 }

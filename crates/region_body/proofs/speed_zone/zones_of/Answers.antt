@@ -1,54 +1,58 @@
-use Rattle.std.proofs.Common.{◌≡◌, ◌-◌, ◌/◌, ◌++◌, ◌∷◌, [], Bool, true, false, ℕ, sym, ap, subst, ◌∙◌, arith, length}
-use Rattle.region_body.specs.SpeedZones.{is_slow_four}
+use Rattle.std.proofs.Common.{◌≡◌, ◌-◌, ◌/◌, ◌++◌, ◌∷◌, [], Bool, ℕ, sym, ap, subst, ◌∙◌, arith, length}
+use Rattle.region_body.specs.SpeedZones.{is_slow_four, is_whole_four}
 use Rattle.region_body.specs.Speeds.{is_slow}
 use Rattle.region_body.proofs.ZonesMade.{AreZonesTo, zones-all, zones-ended, zones-grown, zones-none, zones-passed}
-use Rattle.region_body.proofs.speed_zone.zones_of.Goals.{then-not-is_slow_four, then-from-m+in_ok-push, else-from-m, else-not-is_slow_four, then-from-fours+in_ok-push-2, else-from-fours}
+use Rattle.region_body.proofs.speed_zone.zones_of.Goals.{then-not-alike+then-slow+in_ok-push, then-not-alike+else-slow, else-not-alike, then-slow-2+in_ok-push-2, else-slow-2}
 use Rattle.region_body.proofs.speed_zone.zones_of.Goals as goal
 
 pub loop-m-init : goal.loop-m-init
-loop-m-init c = rw c.new-zones.ensures.items (zones-none (is_slow_four (is_slow c.args.net.now c.args.cells.now)))
+loop-m-init c =
+    let slow : ℕ → Bool = is_slow c.args.net.now c.args.cells.now in
+    rw c.new-zones.ensures.items (zones-none (is_slow_four slow) (is_whole_four slow))
 
 pub loop-m-preserved : goal.loop-m-preserved
 loop-m-preserved c =
-    let cells = c.args.cells.now in
-    let net = c.args.net.now in
+    let slow : ℕ → Bool = is_slow c.args.net.now c.args.cells.now in
     let p : ℕ = c.loop-m.m in
     let from : ℕ = c.loop-m.from in
-    let slow : ℕ → Bool = is_slow_four (is_slow net cells) in
-    let told : slow p ≡ c.is_slow_four.result = sym c.is_slow_four.ensures in
-    elim c.if-not-is_slow_four.branch [
-      | then-not-is_slow_four w ↦
-          let free : slow p ≡ false = told ∙ w.if-not-is_slow_four.true in
-          elim w.if-from-m.branch [
-            | then-from-m+in_ok-push w' ↦
-                rw (w.zones-is, w.from-is, w'.zones-is, w'.in_ok-push.ensures.items)
-                (zones-passed slow p _ (zones-ended slow from p c.loop-m.zones.items c.loop-m.invariant w'.if-from-m.true) free)
-            | else-from-m w' ↦
-                let e : from ≡ p = omega (arith, w'.if-from-m.false, c.loop-m.invariant.come) in
-                rw (w.zones-is, w.from-is, w'.zones-is)
-                (zones-passed slow p c.loop-m.zones.items (subst (λ from. AreZonesTo slow from p c.loop-m.zones.items) e c.loop-m.invariant) free)
-          ]
-      | else-not-is_slow_four w ↦
-          let is : slow p ≡ true = told ∙ w.if-not-is_slow_four.false in
-          rw (w.zones-is, w.from-is) (zones-grown slow from p c.loop-m.zones.items c.loop-m.invariant is)
+    let zones = c.loop-m.zones.items in
+    let all : Bool = c.loop-m.whole in
+    let are = c.loop-m.invariant in
+    elim c.if-not-alike.branch [
+      | then-not-alike+then-slow+in_ok-push w ↦
+          rw (w.zones-is, w.from-is, w.slow-is, w.whole-is, w.in_ok-push.ensures.items, c.is_slow_four-some.ensures, c.is_whole_four-all.ensures)
+          (zones-ended (is_slow_four slow) (is_whole_four slow) from p all zones
+          (subst (λ any. AreZonesTo (is_slow_four slow) (is_whole_four slow) from p any all zones) w.if-slow.true are))
+      | then-not-alike+else-slow w ↦
+          rw (w.zones-is, w.from-is, w.slow-is, w.whole-is, c.is_slow_four-some.ensures, c.is_whole_four-all.ensures)
+          (zones-passed (is_slow_four slow) (is_whole_four slow) from p all zones
+          (subst (λ any. AreZonesTo (is_slow_four slow) (is_whole_four slow) from p any all zones) w.if-slow.false are))
+      | else-not-alike w ↦
+          rw (w.zones-is, w.from-is, w.slow-is, w.whole-is)
+          (zones-grown (is_slow_four slow) (is_whole_four slow) from p c.loop-m.slow all zones are
+          (sym c.is_slow_four-some.ensures ∙ c.alike.ensures.some w.if-not-alike.false)
+          (sym c.is_whole_four-all.ensures ∙ c.alike.ensures.all w.if-not-alike.false))
     ]
 
 pub returns : goal.returns
 returns c =
     let cells = c.args.cells.now in
-    let net = c.args.net.now in
-    let slow : ℕ → Bool = is_slow_four (is_slow net cells) in
+    let slow : ℕ → Bool = is_slow c.args.net.now cells in
     let last : ℕ = c.saturating_sub-fours.result / 4 in
     let from : ℕ = c.loop-m.from in
     let zones = c.loop-m.zones.items in
+    let all : Bool = c.loop-m.whole in
     let end : c.loop-m.m ≡ last = omega (arith, c.loop-m.auto.m-end, c.loop-m-test.false) in
-    let are : AreZonesTo slow from last zones = subst (λ p. AreZonesTo slow from p zones) end c.loop-m.invariant in
+    let To : (p : ℕ) (any : Bool) → Type 0 = λ p any. AreZonesTo (is_slow_four slow) (is_whole_four slow) from p any all zones in
+    let are : To last c.loop-m.slow = subst (λ p. To p c.loop-m.slow) end c.loop-m.invariant in
     let is : last ≡ (length cells - 1) / 4 = ap (λ n. n / 4) c.saturating_sub-fours.ensures in
-    elim c.if-from-fours.branch [
-      | then-from-fours+in_ok-push-2 w ↦
+    elim c.if-slow-2.branch [
+      | then-slow-2+in_ok-push-2 w ↦
           rw (w.zones-is, w.in_ok-push-2.ensures.items, ← is)
-          (zones-all slow last (zones ++ record { from = from; to = last } ∷ []) (zones-ended slow from last zones are w.if-from-fours.true))
-      | else-from-fours w ↦
-          let e : from ≡ last = omega (arith, w.if-from-fours.false, are.come) in
-          rw (w.zones-is, ← is) (zones-all slow last zones (subst (λ from. AreZonesTo slow from last zones) e are))
+          (zones-all slow last (is_slow_four slow last) (is_whole_four slow last) (zones ++ record { from = from; to = last; whole = all } ∷ [])
+          (zones-ended (is_slow_four slow) (is_whole_four slow) from last all zones (subst (To last) w.if-slow-2.true are)))
+      | else-slow-2 w ↦
+          rw (w.zones-is, ← is)
+          (zones-all slow last (is_slow_four slow last) (is_whole_four slow last) zones
+          (zones-passed (is_slow_four slow) (is_whole_four slow) from last all zones (subst (To last) w.if-slow-2.false are)))
     ]

@@ -1,6 +1,6 @@
-use Rattle.std.proofs.Common.{◌≡◌, refl, sym, ap, ◌∙◌, add-one, length, arith}
+use Rattle.std.proofs.Common.{◌+◌, ◌≡◌, refl, sym, ap, ◌∙◌, add-one, length, arith}
 use Rattle.region_body.specs.SpeedZones.{end_before}
-use Rattle.region_body.proofs.AtSpeeds.{few-slow, free-before, free-behind}
+use Rattle.region_body.proofs.AtSpeeds.{few-asked, few-in, free-before, free-behind}
 use Rattle.region_body.proofs.Swept.{swept-none}
 use Rattle.region_body.proofs.sweep_zones.sweep_zones.Goals as goal
 
@@ -21,8 +21,8 @@ sweep_fours-flow-requires-clause-swept c =
       λ p from before. free-before first speeds c.args.zones.now c.loop-zone.zone-index c.requires.can c.loop-zone-test.true p (omega (arith, from, at)) before,
     )
 
-pub slowed_fours-flow-requires-clause-swept : goal.slowed_fours-flow-requires-clause-swept
-slowed_fours-flow-requires-clause-swept c =
+pub sweep_zone-flow-requires-clause-swept : goal.sweep_zone-flow-requires-clause-swept
+sweep_zone-flow-requires-clause-swept c =
     let first = c.args.places.now in
     let speeds = c.args.speeds.now in
     let zones = c.args.zones.now in
@@ -30,7 +30,7 @@ slowed_fours-flow-requires-clause-swept c =
       first,
       c.sweep_fours-flow.ensures first speeds c.loop-zone.invariant.swept
           (λ p from before. free-before first speeds zones c.loop-zone.zone-index c.requires.can c.loop-zone-test.true p (omega (arith, from, at)) before),
-      few-slow first speeds zones c.requires.can,
+      few-in first speeds zones c.loop-zone.zone-index c.requires.can c.loop-zone-test.true,
     )
 
 pub loop-zone-preserved : goal.loop-zone-preserved
@@ -41,7 +41,7 @@ loop-zone-preserved c =
     let at = c.loop-zone.invariant.at in
     record {
       at = sym (ap (end_before zones) (add-one c.loop-zone.zone-index));
-      swept = c.slowed_fours-flow.ensures first (
+      swept = c.sweep_zone-flow.ensures first (
           c.sweep_fours-flow.ensures first speeds c.loop-zone.invariant.swept
           (λ p from before. free-before first speeds zones c.loop-zone.zone-index c.requires.can c.loop-zone-test.true p (omega (arith, from, at)) before)
           );
@@ -69,3 +69,12 @@ loop-p-init c =
     let at = c.loop-zone.invariant.at ∙ ap (end_before zones) all in
     c.sweep_fours-flow-2.ensures first speeds c.loop-zone.invariant.swept
     (λ p from before. free-behind first speeds zones c.requires.can p (omega (arith, from, at)) (omega (arith, before, c.requires.within)))
+
+pub slowed_one-flow-requires-clause-swept : goal.slowed_one-flow-requires-clause-swept
+slowed_one-flow-requires-clause-swept c =
+    let first = c.args.places.now in
+    let p = c.loop-p.p in (
+      first,
+      c.loop-p.invariant,
+      few-asked first c.args.speeds.now c.args.zones.now p (p + 1) c.requires.can (omega (arith, c.requires.within, c.loop-p-test.true, c.loop-p.auto.p-end)),
+    )
