@@ -5,7 +5,7 @@
 //! ```text
 //! let net = Net::read(alloc, &bytes)?;                                        // network_file: the first fault has its place
 //! let layout = charted(alloc, &net, 16)?;                                     // region_cut: the file's regions, or even ones
-//! let regions = last_regions(rt, alloc, layout, 0, 4, &NoObserver)?;            // recorded at no step
+//! let regions = last_regions(rt, alloc, layout, 0, 4, &NoObserver)?;          // recorded at no step
 //! let report = report(alloc, &regions)?;                                      // that of the plain recurrences
 //! let rows = run_rows(alloc, &regions)?;                                      // or the rows of all cells
 //! ```

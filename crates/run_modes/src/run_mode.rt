@@ -12,7 +12,7 @@ ghost use Rattle.run_modes.specs.Told.{HasToldRun};
 use call_beginning::{large_record, layout_asked, network_in, records_too_much};
 use call_ending::Refusal;
 use command_words::Request;
-use delay_report::run_report;
+use delay_report::report;
 use network_file::Net;
 use network_run::last_regions;
 use no_memory::NoMemory;
@@ -59,6 +59,6 @@ fn report_of_run<R: Threads + Sync, W: Observer>(
     let _steps = net.steps;
     let every = u64::from(request.every);
     let layout = layout_asked(alloc, net, request)?;
-    let regions = last_regions(rt, alloc, &layout, every, request.workers, observer)?;
-    run_report(alloc, &layout, &regions, every)
+    let regions = last_regions(rt, alloc, layout, every, request.workers, observer)?;
+    report(alloc, &regions)
 }

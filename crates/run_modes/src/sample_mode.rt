@@ -56,10 +56,10 @@ fn sample_totals<R: Threads + Sync, W: Observer>(
 {
     let _steps = net.steps;
     let layout = charted(alloc, net, regions_wanted(net, request))?;
-    let regions = last_regions(rt, alloc, &layout, 0, request.workers, observer)?;
+    let regions = last_regions(rt, alloc, layout, 0, request.workers, observer)?;
     let mut text = Vec::new(alloc);
     put_sample_line(&mut text, net, request.size, request.seed)?;
-    put_last_totals(alloc, &layout, &regions, &mut text)?;
+    put_last_totals(alloc, &regions, &mut text)?;
     Ok(text)
 }
 

@@ -11,11 +11,12 @@ ghost use Rattle.run_modes.specs.Told.{HasToldWatch};
 use call_beginning::{large_record, layout_asked, network_in, records_too_much};
 use call_ending::{Cause, Line, Refusal};
 use command_words::Request;
-use delay_report::run_report;
+use delay_report::report;
 use network_file::Net;
 use network_run::{Watched, watched_regions};
 use no_memory::NoMemory;
 use region_slots::Observer;
+use region_step::Setup;
 use std::alloc::Global;
 use std::thread::Threads;
 
@@ -76,18 +77,17 @@ fn shots_and_report<R: Threads + Sync, W: Observer>(
     ensures told { IsOk result → HasToldWatch (W.told_held observer.now) (W.told_freed observer.now) (W.told_watched observer.now) net.now request }
 {
     let _steps = net.steps;
-    let every = u64::from(request.every);
     let layout = layout_asked(alloc, net, request)?;
+    let setup = Setup::zero(alloc, layout, u64::from(request.every))?;
     let Watched { mut shots, regions } = watched_regions(
         rt,
         alloc,
-        &layout,
-        every,
+        setup,
         request.workers,
         request.shots,
         observer,
     )?;
-    let report = run_report(alloc, &layout, &regions, every)?;
+    let report = report(alloc, &regions)?;
     shots.extend_from_slice(&report)?;
     Ok(shots)
 }

@@ -57,7 +57,7 @@ fn told(cause: Cause, line: &'static [u8]) -> Refusal {
 fn lines<R: Threads + Sync>(rt: &R, alloc: Global, net: &Net) -> Result<Vec<u8>, NoMemory> {
     let _steps = net.steps;
     let layout = charted(alloc, net, 16)?;
-    let regions = last_regions(rt, alloc, &layout, 0, 4, &NoObserver)?;
-    let rows = run_rows(alloc, &layout, &regions)?;
+    let regions = last_regions(rt, alloc, layout, 0, 4, &NoObserver)?;
+    let rows = run_rows(alloc, &regions)?;
     worst_cells(alloc, &net.cells, &rows, CELLS)
 }

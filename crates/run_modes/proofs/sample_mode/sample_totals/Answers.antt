@@ -1,21 +1,12 @@
-use Rattle.std.proofs.Common.{◌≡◌, ◌++◌, List, ℕ, refl, ap, subst, sym, ◌∙◌}
+use Rattle.std.proofs.Common.{◌≡◌, ◌++◌, List, ℕ, refl, ap, sym, ◌∙◌}
 use Rattle.std.specs.Prelude.{length, min}
 use Rattle.network_file.specs.Network.{Network}
 use Rattle.flow_model.specs.State.{state_at}
 use Rattle.region_cut.specs.Cuttings.{even_cutting}
-use Rattle.region_cut.specs.Layout.{LayoutValue}
-use Rattle.region_step.specs.Setup.{zero_setup}
-use Rattle.region_step.specs.Standing.{AllStandAtLast}
-use Rattle.region_step.specs.Start.{zero_start}
+use Rattle.region_step.specs.Setup.{SetupValue}
 use Rattle.delay_report.specs.Report.{total_line}
-use Rattle.delay_report.proofs.Standing.{end-zero, stand-rows}
 use Rattle.run_modes.specs.SampleMode.{sample_line, sample_of}
 use Rattle.run_modes.proofs.sample_mode.sample_totals.Goals as goal
-
-pub put_last_totals-requires : goal.put_last_totals-requires
-put_last_totals-requires g c = record {
-  rows = rw c.deref.ensures.value (stand-rows (zero_setup c.in_ok-layout.layout 0) _ _ c.in_ok-regions.ensures.stand);
-}
 
 sample-is : (size seed : ℕ) (net : Network) → sample_of size seed net ≡ sample_line size seed net ++ total_line net (state_at net net.steps)
 unfolding sample_of
@@ -24,10 +15,8 @@ sample-is size seed net = refl
 pub returns-clause-text : goal.returns-clause-text
 returns-clause-text g c =
     let net = c.args.net.now in
-    let layout : LayoutValue = c.in_ok-layout.layout in
-    let stand = subst (AllStandAtLast (zero_setup layout 0)) (sym c.deref.ensures.value) c.in_ok-regions.ensures.stand in
-    let totals = c.in_ok-put_last_totals.ensures.recurrences (zero_start layout.net layout.chart.cut) 0 (end-zero layout 0 c.deref.result.now stand) in
-    (rw c.in_ok-layout.ensures.network at totals) ∙
+    let same = ap (λ (setup : SetupValue). setup.net) c.in_ok-regions.ensures.setup ∙ c.in_ok-layout.ensures.network in
+    (rw same at (c.in_ok-put_last_totals.ensures.recurrences c.in_ok-regions.ensures.true_start)) ∙
     ap (λ (first : List ℕ). first ++ total_line net (state_at net net.steps)) (c.in_ok-put_sample_line.ensures ∙ ap (λ (first : List ℕ). first ++ sample_line c.args.request.size c.args.request.seed net) c.new-text.ensures.items) ∙ sym (sample-is c.args.request.size c.args.request.seed net)
 
 pub returns-clause-told : goal.returns-clause-told
