@@ -11,7 +11,7 @@ pub returns-clause-near : goal.returns-clause-near
 returns-clause-near g c =
     let same : c.in_ok-run.run'.terms.setup.now.chart.cut ≡ c.args.setup.now.chart.cut = ap (λ (t : Terms). t.setup.now.chart.cut) c.in_ok-run.ensures.terms in
     let steps : c.net.inside.steps ≡ c.args.setup.now.net.steps = ap (λ n. n.steps) (c.net.view_is ∙ c.net-net.ensures.network ∙ c.layout-layout.ensures.network) in
-    let near = rw same at c.show_near.ensures.near in
+    let near = rw (same, c.layout-layout.ensures.network) at c.show_near.ensures.near in
     record {
       lawful = near.lawful;
       between = λ r there.
@@ -30,7 +30,7 @@ returns-clause-told g c = λ done.
     subst (λ own. AreTold (held (cut_run terms.setup.now)) (freed (cut_run terms.setup.now)) own log) (ap (λ (v : View). v.log) c.in_ok-run.ensures.knows)
     (subst (λ (t : Terms). AreTold (held (cut_run t.setup.now)) (freed (cut_run t.setup.now)) c.in_ok-run.run'.knows.log log) (sym c.show_near.ensures.terms) c.show_near.ensures.told) in
     let came : HasTold held freed (cut_run terms.setup.now) c.min.result =
-    told-logged held freed (cut_run terms.setup.now) c.min.result log (c.close.ensures.logged c.min.result (λ r there. c.show_near.ensures.done r (omega (arith, there, first)))) told in
+    told-logged held freed (cut_run terms.setup.now) c.min.result log (c.close-closed.ensures.logged c.min.result (λ r there. c.show_near.ensures.done r (omega (arith, there, first)))) told in
     let steps : c.net.inside.steps ≡ c.args.setup.now.net.steps = ap (λ n. n.steps) (c.net.view_is ∙ c.net-net.ensures.network ∙ c.layout-layout.ensures.network) in
     let run : HasTold held freed (cut_run c.args.setup.now) c.min.result =
     subst (λ (t : Terms). HasTold held freed (cut_run t.setup.now) c.min.result) (c.show_near.ensures.terms ∙ c.in_ok-run.ensures.terms) came in

@@ -25,6 +25,6 @@ pub returns-clause-told : goal.returns-clause-told
 returns-clause-told g c = λ done.
     let held : Telling = g.W.Observer.told_held c.args.observer.now in
     let freed : Telling = g.W.Observer.told_freed c.args.observer.now in
-    let last : c.net.inside.steps ≡ c.in_ok-setup.setup'.net.steps = ap (λ net. net.steps) (c.net.view_is ∙ c.net-net.ensures.network ∙ c.layout.ensures.network) in
+    let last : c.net.inside.steps ≡ c.in_ok-setup.setup.net.steps = ap (λ net. net.steps) (c.net.view_is ∙ c.net-net.ensures.network ∙ c.layout.ensures.network) in
     subst (λ (setup : SetupValue). HasTold held freed (cut_run setup) setup.net.steps) c.in_ok-setup.ensures.setup
-    (subst (HasTold held freed (cut_run c.in_ok-setup.setup')) last (c.in_ok-regions.ensures.told done))
+    (subst (HasTold held freed (cut_run c.in_ok-setup.setup)) last (c.in_ok-regions.ensures.told done))
