@@ -1,89 +1,78 @@
--- Regions of any start at the last step, of which nothing was recorded.
-use Rattle.std.specs.Prelude.{flat_map, slice_index, slice_index_or}
-use Rattle.std.proofs.Common.{◌≡◌, ℕ, ◌<◌, List, [], ◌++◌, length, map, append-nil, refl, sym, ap, ◌∙◌, arith}
-use Rattle.std.proofs.lemmas.List.FromFn.{get_or-map-range_with_len, length-map-range_with_len}
+-- What the regions of a start come to: with no recorded steps the report from it, and from a true start that of the
+-- plain recurrences.
+use Rattle.std.specs.Prelude.{slice_index}
+use Rattle.std.specs.List.{range_with_len}
+use Rattle.std.proofs.Common.{◌≡◌, ℕ, ◌≤◌, inl, inr, List, [], ◌++◌, length, append-nil, refl, sym, ap, ◌∙◌, arith}
+use Rattle.std.proofs.lemmas.Bool.{cases_eq}
+use Rattle.std.proofs.lemmas.List.FromFn.{fill_by_all, length-map-range_with_len}
 use Rattle.network_file.specs.Network.{IsNetwork, Network}
 use Rattle.flow_model.specs.Rows.{empty_row}
-use Rattle.flow_model.specs.State.{row_at}
-use Rattle.region_cut.specs.Chart.{chart_of, list_at}
-use Rattle.region_cut.specs.Cuttings.{region_count}
-use Rattle.region_cut.specs.Layout.{LayoutValue}
+use Rattle.flow_model.specs.State.{row_at, state_at}
+use Rattle.flow_model.specs.declared.row.Row.{Row}
+use Rattle.flow_model.proofs.States.{length-state_at}
+use Rattle.region_cut.specs.Cuttings.{region_at}
+use Rattle.region_cut.specs.LawfulSteps.{AreLawful}
+use Rattle.region_cut.proofs.Membership.{region_at-there}
+use Rattle.region_cut.proofs.Ranges.{Contains-range}
 use Rattle.region_step.specs.Grid.{grid_row}
-use Rattle.region_step.specs.Laws.{grid_state}
-use Rattle.region_step.specs.Recording.{notes_of, recorded}
-use Rattle.region_step.specs.Region.{RegionValue}
-use Rattle.region_step.specs.Setup.{setup_of}
-use Rattle.region_step.specs.Standing.{AllStandAtLast}
-use Rattle.region_step.specs.Start.{StartLists}
+use Rattle.region_step.specs.Recording.{note_of, recorded}
+use Rattle.region_step.specs.Setup.{SetupValue}
+use Rattle.region_step.specs.Start.{IsTrueStart, StartLists}
 use Rattle.region_step.specs.declared.note.Note.{Note}
-use Rattle.region_step.proofs.GridStates.{grid_state-rows}
-use Rattle.region_step.proofs.Ground.{ground}
+use Rattle.region_step.proofs.Grids.{are_the_recurrences}
 use Rattle.region_step.proofs.Lists.{map_same}
-use Rattle.delay_report.specs.FromStart.{last_rows, report_from}
-use Rattle.delay_report.specs.Regions.{AreEnded, AreNotesOf, AreRowsOf, HaveNotes}
-use Rattle.delay_report.specs.Report.{cell_lines, note_lines, recorded_count, report_line, report_with, state_note, total_line}
+use Rattle.delay_report.specs.FromStart.{IsRecordedFromZero, grid_note, last_rows, report_from}
+use Rattle.delay_report.specs.Report.{cell_lines, note_lines, report_line, report_of, report_with, state_note, total_line}
+use Rattle.delay_report.proofs.Lines.{note_lines-none, note_lines-same}
 use Rattle.delay_report.proofs.RecordedSteps.{recorded-none}
-use Rattle.delay_report.proofs.Standing.{at_last, grid_state-trail, length-notes}
 
-abbrev AtLast : LayoutValue → StartLists → List RegionValue → Type 0
-AtLast layout start regions = AllStandAtLast (setup_of layout start 0) regions
-
--- the row of a cell at the last step
-row_at-last_rows : (net : Network) (cut : List ℕ) (start : StartLists) (i : ℕ) → i < length net.cells → row_at (last_rows net cut start) i ≡ grid_row net cut start net.steps i
-unfolding last_rows
-row_at-last_rows net cut start i there = get_or-map-range_with_len (grid_row net cut start net.steps) 0 (length net.cells) i i empty_row there (omega arith)
-
-length-last_rows : (net : Network) (cut : List ℕ) (start : StartLists) → length (last_rows net cut start) ≡ length net.cells
+pub length-last_rows : (net : Network) (cut : List ℕ) (start : StartLists) → length (last_rows net cut start) ≡ length net.cells
 unfolding last_rows
 length-last_rows net cut start = length-map-range_with_len (grid_row net cut start net.steps) 0 (length net.cells)
 
--- they are those of the regions
-pub last-rows_of : (layout : LayoutValue) (start : StartLists) (regions : List RegionValue) → IsNetwork layout.net → layout.chart ≡ chart_of layout.net layout.chart.cut →
-    length layout.chart.cut ≡ length layout.net.cells → AtLast layout start regions → AreRowsOf layout.chart regions (last_rows layout.net layout.chart.cut start)
-last-rows_of layout start regions sound is one_each stand = record {
-  one_each = length-last_rows layout.net layout.chart.cut start ∙ sym one_each;
-  each = λ r region within.
-      let here = at_last (setup_of layout start 0) r regions region stand within in
-      let lists = ground layout.net layout.chart.cut layout.chart r sound is within in
-      ap (λ state. state.rows) here.state ∙ grid_state-rows layout.net layout.chart start 0 r layout.net.steps ∙
-      map_same (grid_row layout.net layout.chart.cut start layout.net.steps) (row_at (last_rows layout.net layout.chart.cut start)) (list_at layout.chart.cells r)
-      (λ i has. sym (row_at-last_rows layout.net layout.chart.cut start i (lists.own i has).0));
-}
+-- from a true start with lawful steps all cells come to the rows of the plain recurrences
+pub last_rows-true : (net : Network) (cut : List ℕ) (start : StartLists) → IsNetwork net → AreLawful net cut start.steps → IsTrueStart net cut start →
+    last_rows net cut start ≡ state_at net net.steps
+unfolding last_rows
+last_rows-true net cut start sound lawful true_start =
+    let cells = length net.cells in
+    map_same (grid_row net cut start net.steps) (row_at (state_at net net.steps)) (range_with_len 0 cells)
+    (λ i has.
+    let begun : slice_index start.steps (region_at cut i) ≤ net.steps = lawful.in_time (region_at cut i) 0 (omega (arith, region_at-there cut i, lawful.one_each)) in
+    are_the_recurrences net cut start sound lawful true_start net.steps i (Contains-range cells i has) begun) ∙
+    sym (fill_by_all (row_at (state_at net net.steps)) (state_at net net.steps) cells empty_row (length-state_at net net.steps) (λ k within. refl))
 
--- nothing was recorded
-trail-none : (layout : LayoutValue) (start : StartLists) (regions : List RegionValue) (r : ℕ) (region : RegionValue) → AtLast layout start regions →
-    r < region_count layout.chart.cut → (slice_index_or regions r region).state.trail ≡ []
-trail-none layout start regions r region stand within =
-    let here = at_last (setup_of layout start 0) r regions region stand within in
-    ap (λ state. state.trail) here.state ∙ grid_state-trail layout.net layout.chart start 0 r layout.net.steps ∙
-    ap (flat_map (λ s. notes_of (map (grid_row layout.net layout.chart.cut start s) (list_at layout.chart.cells r)))) (recorded-none layout.net.steps (slice_index start.steps r) layout.net.steps)
+-- their recorded steps have the same lines
+notes-true : (setup : SetupValue) → IsNetwork setup.net → AreLawful setup.net setup.chart.cut setup.start.steps → IsTrueStart setup.net setup.chart.cut setup.start → IsRecordedFromZero setup →
+    note_lines setup.net.cells (grid_note setup.net setup.chart.cut setup.start) (recorded setup.net.steps setup.every 0 setup.net.steps) ≡
+    note_lines setup.net.cells (state_note setup.net) (recorded setup.net.steps setup.every 0 setup.net.steps)
+notes-true setup sound lawful true_start from_zero =
+    let net : Network = setup.net in
+    let noted : ℕ → ℕ → Note = grid_note net setup.chart.cut setup.start in
+    elim (cases_eq setup.every 0) [
+      | inl never ↦
+          let none : recorded net.steps setup.every 0 net.steps ≡ [] = ap (λ every. recorded net.steps every 0 net.steps) never ∙ recorded-none net.steps 0 net.steps in
+          ap (note_lines net.cells noted) none ∙ note_lines-none net.cells noted ∙ sym (ap (note_lines net.cells (state_note net)) none ∙ note_lines-none net.cells (state_note net))
+      | inr some ↦
+          note_lines-same net.cells noted (state_note net) (recorded net.steps setup.every 0 net.steps)
+          (λ t i there.
+          let begun : slice_index setup.start.steps (region_at setup.chart.cut i) ≤ t = omega (arith, from_zero some (region_at setup.chart.cut i)) in
+          ap note_of (are_the_recurrences net setup.chart.cut setup.start sound lawful true_start t i there begun))
+    ]
 
-pub last-notes_of : (layout : LayoutValue) (start : StartLists) (regions : List RegionValue) (note : ℕ → ℕ → Note) → AtLast layout start regions →
-    AreNotesOf layout.chart regions (recorded layout.net.steps 0 0 layout.net.steps) note
-last-notes_of layout start regions note stand = record {
-  each = λ r region within. trail-none layout start regions r region stand within ∙
-      sym (ap (flat_map (λ t. map (note t) (list_at layout.chart.cells r))) (recorded-none layout.net.steps 0 layout.net.steps));
-}
+report_with-notes : (net : Network) (every : ℕ) (rows : List Row) (f g : ℕ → ℕ → Note) →
+    note_lines net.cells f (recorded net.steps every 0 net.steps) ≡ note_lines net.cells g (recorded net.steps every 0 net.steps) → report_with net every f rows ≡ report_with net every g rows
+unfolding report_with
+report_with-notes net every rows f g same = ap (λ (lines : List ℕ). report_line net ++ lines ++ cell_lines net.cells rows ++ total_line net rows) same
 
-pub last-notes : (layout : LayoutValue) (start : StartLists) (regions : List RegionValue) → AtLast layout start regions →
-    HaveNotes layout.chart regions (recorded_count layout.net.steps 0)
-last-notes layout start regions stand =
-    let notes = last-notes_of layout start regions (state_note layout.net) stand in
-    record {
-      notes = λ r region within. ap length (notes.each r region within) ∙ length-notes (state_note layout.net) (list_at layout.chart.cells r) (recorded layout.net.steps 0 0 layout.net.steps);
-    }
-
--- they are numbered in order and stand at the last step
-pub last-ended : (layout : LayoutValue) (start : StartLists) (regions : List RegionValue) → AtLast layout start regions → AreEnded layout.net.steps 0 regions
-unfolding grid_state
-last-ended layout start regions stand =
-    let here : (r : ℕ) → r < length regions → r < region_count layout.chart.cut = λ r within. omega (arith, within, stand.one_each) in
-    record {
-      number = λ r region within. ap (λ state. state.number) (at_last (setup_of layout start 0) r regions region stand (here r within)).state;
-      recorded = λ r region within. ap (λ state. state.every) (at_last (setup_of layout start 0) r regions region stand (here r within)).state;
-      step = λ r region within. ap (λ state. state.step) (at_last (setup_of layout start 0) r regions region stand (here r within)).state;
-      started = λ r region within some. absurd (some refl);
-    }
+-- and they have the same report
+pub report_with-true : (setup : SetupValue) → IsNetwork setup.net → AreLawful setup.net setup.chart.cut setup.start.steps → IsTrueStart setup.net setup.chart.cut setup.start → IsRecordedFromZero setup →
+    report_with setup.net setup.every (grid_note setup.net setup.chart.cut setup.start) (last_rows setup.net setup.chart.cut setup.start) ≡ report_of setup.net setup.every
+unfolding report_of
+report_with-true setup sound lawful true_start from_zero =
+    ap (report_with setup.net setup.every (grid_note setup.net setup.chart.cut setup.start)) (last_rows-true setup.net setup.chart.cut setup.start sound lawful true_start) ∙
+    report_with-notes setup.net setup.every (state_at setup.net setup.net.steps) (grid_note setup.net setup.chart.cut setup.start) (state_note setup.net)
+    (notes-true setup sound lawful true_start from_zero)
 
 -- a report with no recorded steps has no lines of them
 pub report_with-none : (net : Network) (cut : List ℕ) (start : StartLists) (note : ℕ → ℕ → Note) → report_with net 0 note (last_rows net cut start) ≡ report_from net cut start

@@ -1,5 +1,5 @@
 pub mod ByRegion
 pub mod Lines
 pub mod RecordedSteps
-pub mod Standing
+pub mod LastRegions
 pub mod FromStart

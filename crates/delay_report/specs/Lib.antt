@@ -1,5 +1,3 @@
-pub mod Ended
-pub mod Regions
 pub mod Report
 pub mod FromStart
 pub mod Places

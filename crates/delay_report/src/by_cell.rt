@@ -1,60 +1,95 @@
-ghost use Rattle.std.specs.Prelude.{◌≡◌, ◌+◌, ◌*◌, ◌<◌, ℕ, List, IfOk, length, slice_index};
-ghost use Rattle.flow_model.specs.State.{row_at};
-ghost use Rattle.flow_model.specs.declared.row.Row.{Row as RowValue};
-ghost use Rattle.delay_report.specs.Places.{AreCellPlaces};
-ghost use Rattle.delay_report.specs.Regions.{AreNotesOf, AreRowsOf, HaveNotes, HaveRows, note_at};
-ghost use Rattle.region_step.specs.declared.note.Note.{Note as NoteValue};
+ghost use Rattle.std.specs.Prelude.{◌≡◌, ◌+◌, ◌*◌, ◌<◌, IfOk, length, slice_index};
+ghost use Rattle.flow_model.specs.State.{state_at};
+ghost use Rattle.region_cut.specs.Cuttings.{region_at};
+ghost use Rattle.region_step.specs.Grid.{grid_row};
+ghost use Rattle.region_step.specs.Recording.{recorded};
+ghost use Rattle.region_step.specs.Regions.{AreAtLast};
+ghost use Rattle.region_step.specs.Standing.{Stands};
+ghost use Rattle.region_step.specs.Start.{IsTrueStart};
+ghost use Rattle.delay_report.specs.FromStart.{IsRecordedFromZero, grid_note, last_rows};
+ghost use Rattle.delay_report.specs.Places.{IsCellPlace, note_at};
+ghost use Rattle.delay_report.specs.Report.{recorded_count};
 
+use crate::cell_places::cell_places;
 use flow_model::Row;
 use no_memory::NoMemory;
-use region_cut::Layout;
-use region_step::{Note, Region};
+use region_step::{Note, Region, Regions};
 use std::alloc::Global;
+use std::marker::Model;
 
-/// Regions, seen cell by cell.
-#[derive(Clone, Copy)]
-pub(crate) struct ByCell<'a> {
-    pub(crate) layout: &'a Layout<'a>,
-    pub(crate) regions: &'a [Region],
-    /// The place of each cell among the cells of its region.
-    pub(crate) places: &'a [u32],
+/// Regions at the last step, seen cell by cell.
+#[derive(Drop)]
+pub(crate) struct ByCell<'r> {
+    pub(crate) regions: &'r Regions<'r>,
+    // The place of each cell among the cells of its region.
+    places: Vec<u32>,
 }
 
-impl ByCell<'_> {
-    /// The row of cell `i` at its region's step.
-    pub(crate) fn row(&self, i: u32) -> Row
-        requires there { i < length self.now.layout.now.chart.cut }
-        requires placed { AreCellPlaces self.now.layout.now.chart (length self.now.layout.now.chart.cut) self.now.places.now }
-        requires rows { HaveRows self.now.layout.now.chart self.now.regions.now }
-        ensures { (rows : List RowValue) → AreRowsOf self.now.layout.now.chart self.now.regions.now rows → result ≡ row_at rows i }
+impl<'r> Model for ByCell<'r> {
+    ghost use Rattle.std.specs.Prelude.{length};
+    ghost use Rattle.region_step.specs.Regions.{AreAtLast, RegionsValue};
+    ghost use Rattle.delay_report.specs.Places.{AreCellPlaces};
+
+    ghost Value = { RegionsValue };
+
+    ghost view = { λ by_cell. by_cell.regions.now };
+
+    ghost invariant = { λ by_cell. AreAtLast by_cell.regions.now
+        × AreCellPlaces by_cell.regions.now.setup.chart (length by_cell.regions.now.setup.chart.cut) by_cell.places.items };
+}
+
+impl<'r> ByCell<'r> {
+    pub(crate) fn of(alloc: Global, regions: &'r Regions<'r>) -> Result<ByCell<'r>, NoMemory>
+        requires { AreAtLast regions.now }
+        ensures { IfOk result (λ by_cell. by_cell ≡ regions.now) }
     {
-        let q = self.layout.region_of(i);
-        self.regions[q as usize].row(self.places[i as usize])
+        let places = cell_places(alloc, regions.setup().layout())?;
+        Ok(ByCell { regions, places })
+    }
+
+    /// The row of cell `i`.
+    pub(crate) fn row(&self, i: u32) -> Row
+        requires { i < length self.now.setup.chart.cut }
+        ensures { result ≡ grid_row self.now.setup.net self.now.setup.chart.cut self.now.setup.start self.now.setup.net.steps i }
+    {
+        let (region, place) = self.find(i);
+        region.row(place)
     }
 
     /// What was noted of cell `i` at the `k`-th recorded step.
     pub(crate) fn note(&self, k: usize, i: u32) -> Note
-        requires there { i < length self.now.layout.now.chart.cut }
-        requires placed { AreCellPlaces self.now.layout.now.chart (length self.now.layout.now.chart.cut) self.now.places.now }
-        requires rows { HaveRows self.now.layout.now.chart self.now.regions.now }
-        requires notes { (steps : ℕ) × (k < steps) × HaveNotes self.now.layout.now.chart self.now.regions.now steps }
-        ensures { (recorded : List ℕ) (note : ℕ → ℕ → NoteValue) → k < length recorded → AreNotesOf self.now.layout.now.chart self.now.regions.now recorded note →
-            result ≡ note (slice_index recorded k) i }
+        requires there { i < length self.now.setup.chart.cut }
+        requires from_zero { IsRecordedFromZero self.now.setup }
+        requires noted { k < recorded_count self.now.setup.net.steps self.now.setup.every }
+        ensures { result ≡ grid_note self.now.setup.net self.now.setup.chart.cut self.now.setup.start
+            (slice_index (recorded self.now.setup.net.steps self.now.setup.every 0 self.now.setup.net.steps) k) i }
     {
-        let q = self.layout.region_of(i);
-        let cells = self.layout.cells(q);
-        let trail = self.regions[q as usize].trail();
-        note_in(trail, cells.len(), k, self.places[i as usize])
+        let (region, place) = self.find(i);
+        let layout = self.regions.setup().layout();
+        let cells = layout.cells(layout.region_of(i));
+        note_in(region.trail(), cells.len(), k, place)
+    }
+
+    // The region of cell `i`, and the cell's place there.
+    fn find(&self, i: u32) -> (&Region, u32)
+        requires { i < length self.now.setup.chart.cut }
+        ensures region { Stands self.now.setup (region_at self.now.setup.chart.cut i) self.now.setup.net.steps result.0.now }
+        ensures place { IsCellPlace self.now.setup.chart i result.1 }
+    {
+        let q = self.regions.setup().layout().region_of(i);
+        (&self.regions.list()[q as usize], self.places[i as usize])
     }
 
     /// The rows of all cells.
     pub(crate) fn rows(&self, alloc: Global) -> Result<Vec<Row>, NoMemory>
-        requires placed { AreCellPlaces self.now.layout.now.chart (length self.now.layout.now.chart.cut) self.now.places.now }
-        requires rows { HaveRows self.now.layout.now.chart self.now.regions.now }
-        ensures one_each { IfOk result (λ own. length own.items ≡ length self.now.layout.now.net.cells) }
-        ensures rows { IfOk result (λ own. (rows : List RowValue) → AreRowsOf self.now.layout.now.chart self.now.regions.now rows → own.items ≡ rows) }
+        ensures one_each { IfOk result (λ rows. length rows.items ≡ length self.now.setup.net.cells) }
+        ensures rows { IfOk result (λ rows. rows.items ≡ last_rows self.now.setup.net self.now.setup.chart.cut self.now.setup.start) }
+        ensures recurrences { IfOk result (λ rows. IsTrueStart self.now.setup.net self.now.setup.chart.cut self.now.setup.start →
+            rows.items ≡ state_at self.now.setup.net self.now.setup.net.steps) }
     {
-        let net = self.layout.net();
+        let setup = self.regions.setup();
+        let _start = setup.start();
+        let net = setup.layout().net();
         let mut rows = Vec::with_capacity(alloc, net.cells.len())?;
         for i in 0..net.cells.len() as u32 {
             rows.push(self.row(i))?;

@@ -7,7 +7,7 @@ use std::alloc::Global;
 
 /// The place of each cell among the cells of its region.
 pub(crate) fn cell_places(alloc: Global, layout: &Layout) -> Result<Vec<u32>, NoMemory>
-    ensures { IfOk result (λ places. AreCellPlaces layout.now.chart (length layout.now.net.cells) places.items) }
+    ensures { IfOk result (λ places. AreCellPlaces layout.now.chart (length layout.now.chart.cut) places.items) }
 {
     let net = layout.net();
     let mut places = Vec::with_capacity(alloc, net.cells.len())?;

@@ -1,10 +1,7 @@
-ghost use Rattle.std.specs.Prelude.{◌≡◌, ◌++◌, ◌<◌, ◌^◌, ℕ, List, length, slice_index, OnOk};
-ghost use Rattle.delay_report.specs.Places.{AreCellPlaces};
-ghost use Rattle.delay_report.specs.Report.{recorded_count};
-ghost use Rattle.delay_report.specs.Regions.{AreNotesOf, HaveNotes, HaveRows};
-ghost use Rattle.delay_report.specs.Report.{note_line, note_lines, step_lines};
+ghost use Rattle.std.specs.Prelude.{◌≡◌, ◌++◌, ◌<◌, ◌^◌, length, slice_index, OnOk};
 ghost use Rattle.region_step.specs.Recording.{recorded};
-ghost use Rattle.region_step.specs.declared.note.Note.{Note as NoteValue};
+ghost use Rattle.delay_report.specs.FromStart.{IsRecordedFromZero, grid_note};
+ghost use Rattle.delay_report.specs.Report.{note_line, note_lines, recorded_count, step_lines};
 
 use crate::by_cell::ByCell;
 use line_fields::{put_amount, put_count};
@@ -13,19 +10,15 @@ use no_memory::NoMemory;
 use region_step::{Note, is_recorded};
 
 /// Appends a line for each recorded step and each cell.
-pub(crate) fn put_note_lines(
-    text: &mut Vec<u8>,
-    by_cell: &ByCell,
-    every: u64,
-) -> Result<(), NoMemory>
-    requires placed { AreCellPlaces by_cell.now.layout.now.chart (length by_cell.now.layout.now.chart.cut) by_cell.now.places.now }
-    requires rows { HaveRows by_cell.now.layout.now.chart by_cell.now.regions.now }
-    requires notes { HaveNotes by_cell.now.layout.now.chart by_cell.now.regions.now (recorded_count by_cell.now.layout.now.net.steps every) }
-    ensures { OnOk result ((note : ℕ → ℕ → NoteValue) →
-        AreNotesOf by_cell.now.layout.now.chart by_cell.now.regions.now (recorded by_cell.now.layout.now.net.steps every 0 by_cell.now.layout.now.net.steps) note →
-        text.new.items ≡ text.old.items ++ note_lines by_cell.now.layout.now.net.cells note (recorded by_cell.now.layout.now.net.steps every 0 by_cell.now.layout.now.net.steps)) }
+pub(crate) fn put_note_lines(text: &mut Vec<u8>, by_cell: &ByCell) -> Result<(), NoMemory>
+    requires { IsRecordedFromZero by_cell.now.setup }
+    ensures { OnOk result (text.new.items ≡ text.old.items ++
+        note_lines by_cell.now.setup.net.cells (grid_note by_cell.now.setup.net by_cell.now.setup.chart.cut by_cell.now.setup.start)
+        (recorded by_cell.now.setup.net.steps by_cell.now.setup.every 0 by_cell.now.setup.net.steps)) }
 {
-    let net = by_cell.layout.net();
+    let setup = by_cell.regions.setup();
+    let every = setup.every();
+    let net = setup.layout().net();
     let mut k = 0;
     for t in 0..net.steps + 1 {
         if is_recorded(net.steps, every, t) {
@@ -45,13 +38,12 @@ fn put_step_lines(
     t: u64,
 ) -> Result<(), NoMemory>
     requires few { length cells.now < 2 ^ 32 }
-    requires one_each { length by_cell.now.layout.now.chart.cut ≡ length cells.now }
-    requires placed { AreCellPlaces by_cell.now.layout.now.chart (length by_cell.now.layout.now.chart.cut) by_cell.now.places.now }
-    requires rows { HaveRows by_cell.now.layout.now.chart by_cell.now.regions.now }
-    requires notes { (steps : ℕ) × (k < steps) × HaveNotes by_cell.now.layout.now.chart by_cell.now.regions.now steps }
-    ensures { OnOk result ((recorded : List ℕ) (note : ℕ → ℕ → NoteValue) → k < length recorded → slice_index recorded k ≡ t →
-        AreNotesOf by_cell.now.layout.now.chart by_cell.now.regions.now recorded note →
-        text.new.items ≡ text.old.items ++ step_lines cells.now (note t) t) }
+    requires one_each { length by_cell.now.setup.chart.cut ≡ length cells.now }
+    requires from_zero { IsRecordedFromZero by_cell.now.setup }
+    requires step { (k < recorded_count by_cell.now.setup.net.steps by_cell.now.setup.every)
+        × (slice_index (recorded by_cell.now.setup.net.steps by_cell.now.setup.every 0 by_cell.now.setup.net.steps) k ≡ t) }
+    ensures { OnOk result (text.new.items ≡ text.old.items ++
+        step_lines cells.now (grid_note by_cell.now.setup.net by_cell.now.setup.chart.cut by_cell.now.setup.start t) t) }
 {
     for (i, cell) in cells.iter().enumerate() {
         put_note_line(text, t, cell, by_cell.note(k, i as u32))?;

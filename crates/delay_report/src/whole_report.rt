@@ -1,61 +1,51 @@
-ghost use Rattle.std.specs.Prelude.{◌≡◌, ◌++◌, ◌+◌, ℕ, List, IfOk, OnOk, length};
+ghost use Rattle.std.specs.Prelude.{◌≡◌, ◌++◌, ◌+◌, IfOk, OnOk};
 ghost use Rattle.flow_ledger.specs.Books.{entered_of, initial_of, inside_of, left_of};
-ghost use Rattle.flow_model.specs.declared.row.Row.{Row as RowValue};
-ghost use Rattle.region_step.specs.Recording.{recorded};
-ghost use Rattle.region_step.specs.Setup.{setup_of};
-ghost use Rattle.region_step.specs.Start.{StartLists};
-ghost use Rattle.region_step.specs.declared.note.Note.{Note as NoteValue};
-ghost use Rattle.delay_report.specs.Ended.{AreAtTheEnd};
-ghost use Rattle.delay_report.specs.Report.{recorded_count};
-ghost use Rattle.delay_report.specs.Regions.{AreEnded, AreNotesOf, AreRowsOf, HaveNotes, HaveRows};
+ghost use Rattle.region_step.specs.Regions.{AreAtLast};
+ghost use Rattle.region_step.specs.Start.{IsTrueStart};
+ghost use Rattle.delay_report.specs.FromStart.{IsRecordedFromZero, grid_note, last_rows, report_from};
 ghost use Rattle.delay_report.specs.Report.{report_line, report_of, report_with};
 
 use crate::by_cell::ByCell;
 use crate::cell_lines::put_cell_lines;
-use crate::cell_rows::cell_rows;
 use crate::note_lines::put_note_lines;
 use crate::total_line::put_total_line;
 use line_fields::put_count;
 use network_file::Net;
 use no_memory::NoMemory;
-use region_cut::Layout;
-use region_step::Region;
+use region_step::Regions;
 use std::alloc::Global;
 
-/// The report of a run whose regions, one a number in order, stand at the last step (docs/FORMAT.md, "The report"). They
-/// were opened with this `every`, and at step 0 where it isn't 0.
+/// The report of a run whose regions have come to the last step (docs/FORMAT.md, "The report"): from step 0 where they were
+/// recorded, else from any start.
 #[tactic(auto, unfolding(crate::specs::Report::report_with))]
-pub fn report(
-    alloc: Global,
-    layout: &Layout,
-    regions: &[Region],
-    every: u64,
-) -> Result<Vec<u8>, NoMemory>
-    requires ended { AreEnded layout.now.net.steps every regions.now }
-    requires rows { HaveRows layout.now.chart regions.now }
-    requires notes { HaveNotes layout.now.chart regions.now (recorded_count layout.now.net.steps every) }
-    ensures text { IfOk result (λ text. (note : ℕ → ℕ → NoteValue) (rows : List RowValue) →
-        AreNotesOf layout.now.chart regions.now (recorded layout.now.net.steps every 0 layout.now.net.steps) note → AreRowsOf layout.now.chart regions.now rows →
-        text.items ≡ report_with layout.now.net every note rows) }
+pub fn report(alloc: Global, regions: &Regions) -> Result<Vec<u8>, NoMemory>
+    requires last { AreAtLast regions.now }
+    requires from_zero { IsRecordedFromZero regions.now.setup }
+    ensures rows { IfOk result (λ text. text.items ≡ report_with regions.now.setup.net regions.now.setup.every
+        (grid_note regions.now.setup.net regions.now.setup.chart.cut regions.now.setup.start)
+        (last_rows regions.now.setup.net regions.now.setup.chart.cut regions.now.setup.start)) }
+    ensures unrecorded { IfOk result (λ text. regions.now.setup.every ≡ 0 →
+        text.items ≡ report_from regions.now.setup.net regions.now.setup.chart.cut regions.now.setup.start) }
 
-    // Of regions of a true start it is the report of the plain recurrences, whatever the cutting.
-    ensures recurrences { IfOk result (λ text. (start : StartLists) → AreAtTheEnd (setup_of layout.now start every) regions.now → text.items ≡ report_of layout.now.net every) }
+    // Of a true start it is the report of the plain recurrences, whatever the cutting.
+    ensures recurrences { IfOk result (λ text. IsTrueStart regions.now.setup.net regions.now.setup.chart.cut regions.now.setup.start →
+        text.items ≡ report_of regions.now.setup.net regions.now.setup.every) }
 
     // Then its totals balance: what is inside at the last step and what has left were there at first or have entered.
-    ensures balance { IfOk result (λ text. (start : StartLists) (rows : List RowValue) → AreAtTheEnd (setup_of layout.now start every) regions.now →
-        AreRowsOf layout.now.chart regions.now rows → inside_of layout.now.net rows + left_of layout.now.net rows ≡ initial_of layout.now.net + entered_of layout.now.net rows) }
+    ensures balance { IfOk result (λ text. IsTrueStart regions.now.setup.net regions.now.setup.chart.cut regions.now.setup.start →
+        let net = regions.now.setup.net in
+        let rows = last_rows net regions.now.setup.chart.cut regions.now.setup.start in
+        inside_of net rows + left_of net rows ≡ initial_of net + entered_of net rows) }
 {
-    let net = layout.net();
+    let setup = regions.setup();
+    let _start = setup.start();
+    let net = setup.layout().net();
     let _steps = net.steps;
-    let (places, rows) = cell_rows(alloc, layout, regions)?;
-    let by_cell = ByCell {
-        layout,
-        regions,
-        places: &places,
-    };
+    let by_cell = ByCell::of(alloc, regions)?;
+    let rows = by_cell.rows(alloc)?;
     let mut text = Vec::new(alloc);
     put_report_line(&mut text, net)?;
-    put_note_lines(&mut text, &by_cell, every)?;
+    put_note_lines(&mut text, &by_cell)?;
     put_cell_lines(&mut text, &net.cells, &rows)?;
     put_total_line(&mut text, net, &rows)?;
     Ok(text)

@@ -8,17 +8,16 @@ use Rattle.network_file.specs.Limits.{most_regions}
 use Rattle.network_file.specs.Network.{Network}
 use Rattle.region_cut.specs.Chart.{ChartLists, IsChart, list_at}
 use Rattle.region_cut.specs.Cuttings.{region_count}
-use Rattle.region_cut.specs.Layout.{LayoutValue}
 use Rattle.region_cut.specs.declared.halo.Halo.{Halo}
 use Rattle.region_step.specs.Advance.{HasHaloPut}
 use Rattle.region_step.specs.Grid.{grid_held}
 use Rattle.region_step.specs.Laws.{grid_state, with_halo}
 use Rattle.region_step.specs.Opened.{IsIn, halo_cells}
 use Rattle.region_step.specs.Region.{RegionState, RegionValue}
-use Rattle.region_step.specs.Setup.{SetupValue, zero_setup}
-use Rattle.region_step.specs.Standing.{AllStandAt, Stands}
-use Rattle.region_step.specs.Start.{StartLists, zero_start}
-use Rattle.region_step.proofs.Steps.{zero_start-at}
+use Rattle.region_step.specs.Regions.{HaveCome}
+use Rattle.region_step.specs.Setup.{SetupValue}
+use Rattle.region_step.specs.Standing.{Stands}
+use Rattle.region_step.specs.Start.{StartLists}
 
 none-there : (halos : List Halo) → ((halo : Halo) → Contains halos halo → ⊥) → halos ≡ []
 none-there [] none = refl
@@ -45,28 +44,17 @@ halo-told : (net : Network) (chart : ChartLists) (start : StartLists) (every t :
 unfolding grid_state
 halo-told net chart start every t held none = rw none refl
 
--- the region as it is opened
-pub first-stands : (layout : LayoutValue) (start : StartLists) (region : RegionValue) → start ≡ zero_start layout.net layout.chart.cut → IsIn layout.net layout.chart region →
-    region.state ≡ grid_state layout.net layout.chart start 0 0 (slice_index start.steps 0) → Stands (zero_setup layout 0) 0 0 region
-first-stands layout start region same opened is = record {
-  opened = opened;
-  state = is ∙ ap (λ (s : StartLists). grid_state layout.net layout.chart s 0 0 (slice_index s.steps 0)) same ∙
-      ap (grid_state layout.net layout.chart (zero_start layout.net layout.chart.cut) 0 0) (zero_start-at layout.net layout.chart.cut 0);
-}
-
--- and a step on, by what `advance` says of it
-pub next-stands : (layout : LayoutValue) (t : ℕ) (old new : RegionValue) → list_at layout.chart.halo 0 ≡ [] → Stands (zero_setup layout 0) 0 t old → IsIn layout.net layout.chart new →
+-- a step on, by what `advance` says of it
+pub next-stands : (setup : SetupValue) (t : ℕ) (old new : RegionValue) → list_at setup.chart.halo 0 ≡ [] → slice_index setup.start.steps 0 ≤ t → Stands setup 0 t old → IsIn setup.net setup.chart new →
     ((start : StartLists) (every r t : ℕ) → slice_index start.steps r ≤ t →
-    old.state ≡ with_halo layout.chart (grid_held layout.net layout.chart.cut start t) (grid_state layout.net layout.chart start every r t) →
-    new.state ≡ grid_state layout.net layout.chart start every r (t + 1)) →
-    Stands (zero_setup layout 0) 0 (t + 1) new
-next-stands layout t old new none stands opened advanced =
-    let zero : StartLists = zero_start layout.net layout.chart.cut in
-    record {
-      opened = opened;
-      state = advanced zero 0 0 t (omega (arith, zero_start-at layout.net layout.chart.cut 0))
-          (stands.state ∙ halo-told layout.net layout.chart zero 0 t (grid_held layout.net layout.chart.cut zero t) none);
-    }
+    old.state ≡ with_halo setup.chart (grid_held setup.net setup.chart.cut start t) (grid_state setup.net setup.chart start every r t) →
+    new.state ≡ grid_state setup.net setup.chart start every r (t + 1)) →
+    Stands setup 0 (t + 1) new
+next-stands setup t old new none started stands opened advanced = record {
+  opened = opened;
+  state = advanced setup.start setup.every 0 t started
+      (stands.state ∙ halo-told setup.net setup.chart setup.start setup.every t (grid_held setup.net setup.chart.cut setup.start t) none);
+}
 
 -- its number and its step
 pub stands-number : (setup : SetupValue) (t : ℕ) (region : RegionValue) → Stands setup 0 t region → region.state.number ≡ 0
@@ -78,14 +66,20 @@ unfolding grid_state
 stands-step setup t region stands = ap (λ state. state.step) stands.state
 
 -- the only region as all of them
-pub one-stands : (setup : SetupValue) (t : ℕ) (region : RegionValue) → region_count setup.chart.cut ≡ 1 → Stands setup 0 t region → AllStandAt setup t (region ∷ [])
-one-stands setup t region one stands = record {
+pub one-come : (setup : SetupValue) (t : ℕ) (region : RegionValue) → region_count setup.chart.cut ≡ 1 → slice_index setup.start.steps 0 ≤ t → Stands setup 0 t region →
+    HaveCome setup (t ∷ []) (region ∷ [])
+one-come setup t region one started stands = record {
   one_each = sym one;
-  each = λ q d within. at q d within;
+  later = λ q within. later q (omega (arith, within, one));
+  stand = record { one_each = sym one; each = λ q d within. at q d within };
 }
   where
-    at : (q : ℕ) (d : RegionValue) → q < length (region ∷ []) → Stands setup q (slice_index (replicate (region_count setup.chart.cut) t) q) (slice_index_or (region ∷ []) q d)
-    at zero d within = rw one stands
+    later : (q : ℕ) → q < 1 → slice_index setup.start.steps q ≤ slice_index (t ∷ []) q
+    later zero within = started
+    later (suc q) within = absurd (omega (arith, within))
+
+    at : (q : ℕ) (d : RegionValue) → q < length (region ∷ []) → Stands setup q (slice_index (t ∷ []) q) (slice_index_or (region ∷ []) q d)
+    at zero d within = stands
     at (suc q) d within = absurd (omega arith)
 
 -- the cutting of all cells into one region

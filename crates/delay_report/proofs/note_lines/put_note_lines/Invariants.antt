@@ -1,7 +1,5 @@
-use Rattle.std.proofs.Common.{◌≡◌, ◌≤◌, ℕ, ◌++◌, length}
-use Rattle.region_step.specs.Recording.{recorded}
-use Rattle.region_step.specs.declared.note.Note.{Note}
-use Rattle.delay_report.specs.Regions.{AreNotesOf}
+use Rattle.std.proofs.Common.{◌≡◌, ◌≤◌, ◌++◌, length}
+use Rattle.delay_report.specs.FromStart.{grid_note}
 use Rattle.delay_report.specs.Report.{note_lines}
 use Rattle.delay_report.proofs.RecordedSteps.{before}
 use Rattle.delay_report.proofs.note_lines.put_note_lines.Given as goal
@@ -10,7 +8,7 @@ use Rattle.delay_report.proofs.note_lines.put_note_lines.Given as goal
 abbrev pub invariant-loop-t : goal.invariant-loop-t
 invariant-loop-t l = record {
   few : l.k ≤ l.t;
-  count : l.k ≡ length (before l.by_cell.layout.now.net.steps l.every l.t);
-  lines : (note : ℕ → ℕ → Note) → AreNotesOf l.by_cell.layout.now.chart l.by_cell.regions.now (recorded l.by_cell.layout.now.net.steps l.every 0 l.by_cell.layout.now.net.steps) note →
-      l.text.items ≡ l.initial.text.items ++ note_lines l.by_cell.layout.now.net.cells note (before l.by_cell.layout.now.net.steps l.every l.t);
+  count : l.k ≡ length (before l.by_cell.setup.net.steps l.by_cell.setup.every l.t);
+  lines : l.text.items ≡
+      l.initial.text.items ++ note_lines l.by_cell.setup.net.cells (grid_note l.by_cell.setup.net l.by_cell.setup.chart.cut l.by_cell.setup.start) (before l.by_cell.setup.net.steps l.by_cell.setup.every l.t);
 }

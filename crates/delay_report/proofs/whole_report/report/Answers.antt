@@ -1,27 +1,34 @@
-use Rattle.std.proofs.Common.{arith, rules, subst, sym, ◌∙◌}
+use Rattle.std.proofs.Common.{ℕ, ap, arith, rules, subst, ◌∙◌}
 use Rattle.network_file.specs.Network.{IsNetwork}
-use Rattle.flow_model.specs.State.{state_at}
 use Rattle.flow_ledger.proofs.BooksLaws.{state-balance}
-use Rattle.delay_report.specs.Report.{report_of, report_with, state_note}
-use Rattle.delay_report.proofs.Standing.{end-notes_of, end-rows_of}
-use Rattle.region_step.specs.Setup.{setup_of}
+use Rattle.region_cut.specs.LawfulSteps.{AreLawful}
+use Rattle.region_step.specs.Setup.{SetupValue}
+use Rattle.delay_report.specs.FromStart.{grid_note, last_rows}
+use Rattle.delay_report.specs.Report.{report_with}
+use Rattle.delay_report.proofs.FromStart.{last_rows-true, report_with-none, report_with-true}
 use Rattle.delay_report.proofs.whole_report.report.Goals as goal
 
-pub returns-clause-balance : goal.returns-clause-balance
-returns-clause-balance c = λ start rows end are.
-    let sound = subst IsNetwork (c.net.view_is ∙ c.net-net.ensures.network) c.net.invariant in
-    let last = end-rows_of (setup_of c.args.layout.now start c.args.every) c.args.regions.now sound c.net-net.ensures.charted c.net-net.ensures.one_each end in
-    let same = sym (c.in_ok-places.ensures.rows rows are) ∙ c.in_ok-places.ensures.rows (state_at c.args.layout.now.net c.args.layout.now.net.steps) last in
-    rw same (state-balance c.args.layout.now.net c.args.layout.now.net.steps sound (omega arith))
-
-pub returns-clause-text : goal.returns-clause-text
+pub returns-clause-rows : goal.returns-clause-rows
 unfolding report_with
-returns-clause-text c = search rules
+returns-clause-rows c = search rules
+
+pub returns-clause-unrecorded : goal.returns-clause-unrecorded
+returns-clause-unrecorded c = λ never.
+    let setup : SetupValue = c.args.regions.now.setup in
+    let note = grid_note setup.net setup.chart.cut setup.start in
+    returns-clause-rows c ∙ ap (λ (every : ℕ). report_with setup.net every note (last_rows setup.net setup.chart.cut setup.start)) never ∙
+    report_with-none setup.net setup.chart.cut setup.start note
 
 pub returns-clause-recurrences : goal.returns-clause-recurrences
-unfolding report_of
-returns-clause-recurrences c = λ start end.
-    let sound = subst IsNetwork (c.net.view_is ∙ c.net-net.ensures.network) c.net.invariant in
-    let notes = end-notes_of (setup_of c.args.layout.now start c.args.every) c.args.regions.now sound c.net-net.ensures.charted end in
-    let rows = end-rows_of (setup_of c.args.layout.now start c.args.every) c.args.regions.now sound c.net-net.ensures.charted c.net-net.ensures.one_each end in
-    returns-clause-text c (state_note c.args.layout.now.net) (state_at c.args.layout.now.net c.args.layout.now.net.steps) notes rows
+returns-clause-recurrences c = λ true_start.
+    let setup : SetupValue = c.args.regions.now.setup in
+    let sound = subst IsNetwork (c.net.view_is ∙ c.net-net.ensures.network ∙ c.layout.ensures.network ∙ ap (λ setup. setup.net) c.setup-setup.ensures.setup) c.net.invariant in
+    let lawful = subst (λ (setup : SetupValue). AreLawful setup.net setup.chart.cut setup.start.steps) c.setup-setup.ensures.setup c.start-start.ensures.lawful in
+    returns-clause-rows c ∙ report_with-true setup sound lawful true_start c.requires.from_zero
+
+pub returns-clause-balance : goal.returns-clause-balance
+returns-clause-balance c = λ true_start.
+    let setup : SetupValue = c.args.regions.now.setup in
+    let sound = subst IsNetwork (c.net.view_is ∙ c.net-net.ensures.network ∙ c.layout.ensures.network ∙ ap (λ setup. setup.net) c.setup-setup.ensures.setup) c.net.invariant in
+    let lawful = subst (λ (setup : SetupValue). AreLawful setup.net setup.chart.cut setup.start.steps) c.setup-setup.ensures.setup c.start-start.ensures.lawful in
+    rw (last_rows-true setup.net setup.chart.cut setup.start sound lawful true_start) (state-balance setup.net setup.net.steps sound (omega arith))
