@@ -1,22 +1,20 @@
-ghost use Rattle.std.specs.Prelude.{◌≡◌, ◌+◌, ◌<◌, ◌≤◌, ◌^◌, IfOk, IsOk, [], length};
+ghost use Rattle.std.specs.Prelude.{◌≡◌, ◌+◌, ◌<◌, ◌≤◌, ◌^◌, IfOk, IsOk, []};
 ghost use Rattle.region_cut.specs.Cuttings.{region_count};
 ghost use Rattle.region_step.specs.Regions.{AreAtLast};
 ghost use Rattle.region_step.specs.Start.{zero_start};
 ghost use Rattle.snapshot.specs.Rooms.{IsRoomFor};
-ghost use Rattle.snapshot.specs.Shots.{goal_of};
 ghost use Rattle.shot_lines.specs.Shots.{AreShots};
 ghost use Rattle.worker_claim.specs.Driving.{AllReach};
 ghost use Rattle.region_slots.specs.Moments.{AreTold, cut_run};
 ghost use Rattle.network_run.specs.Telling.{HasTold, HasToldShots};
 
 use crate::run::Run;
-use network_file::Net;
 use no_memory::NoMemory;
 use region_cut::Layout;
 use region_slots::{Closed, Observer};
 use region_step::{Regions, Setup};
 use shot_lines::shot_text;
-use snapshot::ShotRoom;
+use snapshot::{ShotRoom, goal_at};
 use std::alloc::Global;
 use std::thread::Threads;
 
@@ -93,14 +91,4 @@ impl<'a> Run<'a> {
         }
         Ok(())
     }
-}
-
-// Goal `i` of so many shots.
-fn goal_at(net: &Net, shots: u32, i: u32) -> u64
-    requires some { 1 ≤ shots }
-    requires one_of { i ≤ shots }
-    ensures goal { result ≡ goal_of net.now.steps shots i }
-    ensures in_time { result ≤ net.now.steps }
-{
-    u64::from(i) * net.steps / u64::from(shots)
 }
