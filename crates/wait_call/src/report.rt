@@ -7,7 +7,7 @@ ghost use Rattle.wait_call.specs.Telling.{HasToldRun, IsAnswered};
 use crate::waiting_run::last_regions;
 use call_beginning::network_in;
 use call_ending::Refusal;
-use delay_report::run_report;
+use delay_report::report;
 use network_file::Net;
 use no_memory::NoMemory;
 use region_cut::charted;
@@ -54,6 +54,6 @@ fn report_of_run<R: Threads + Wait + Sync, W: Observer>(
 {
     let _steps = net.steps;
     let layout = charted(alloc, net, REGIONS)?;
-    let regions = last_regions(rt, alloc, &layout, workers, observer)?;
-    run_report(alloc, &layout, &regions, 0)
+    let regions = last_regions(rt, alloc, layout, workers, observer)?;
+    report(alloc, &regions)
 }

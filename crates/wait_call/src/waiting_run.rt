@@ -6,40 +6,50 @@ ghost use Rattle.network_run.specs.Telling.{HasTold, zero_run};
 ghost use Rattle.parked_crew.specs.Parking.{HasSeenAll};
 ghost use Rattle.parked_crew.specs.Telling.{ArePassesTold};
 ghost use Rattle.wait_call.specs.Seats.{HasCome, IsSeat};
+ghost use Rattle.region_step.specs.Regions.{AreAtLast};
 ghost use Rattle.region_step.specs.Setup.{zero_setup};
-ghost use Rattle.region_step.specs.Standing.{AllStandAtLast};
+ghost use Rattle.region_step.specs.Start.{IsTrueStart};
 
 use crate::seats::{share_off, unite_all};
 use no_memory::NoMemory;
 use parked_crew::{Board, parked};
 use region_cut::Layout;
 use region_slots::{Closed, Field, Observer, Pass};
-use region_step::{Region, Setup};
+use region_step::{Regions, Setup};
 use std::alloc::Global;
 use std::sync::Wait;
 use std::thread::Threads;
 
 /// The regions of a layout at the last step, recorded at none, taken there from step 0 by so many workers that wait where
 /// they would sweep in vain. The observer is told of each of their steps. All memory is taken before the first step.
-pub(crate) fn last_regions<R: Threads + Wait + Sync, W: Observer>(
+pub(crate) fn last_regions<'n, R: Threads + Wait + Sync, W: Observer>(
     rt: &R,
     alloc: Global,
-    layout: &Layout,
+    layout: Layout<'n>,
     workers: u32,
     observer: &W,
-) -> Result<Vec<Region>, NoMemory>
+) -> Result<Regions<'n>, NoMemory>
     requires workers { (1 ≤ workers) × (workers ≤ 16) }
-    ensures stand { IfOk result (λ regions. AllStandAtLast (zero_setup layout.now 0) regions.items) }
-    ensures told { IsOk result → HasTold (W.told_held observer.now) (W.told_freed observer.now) (zero_run layout.now.net layout.now.chart.cut 0) layout.now.net.steps }
+    ensures setup { IfOk result (λ regions. regions.setup ≡ zero_setup layout.entry 0) }
+    ensures true_start { IfOk result (λ regions. IsTrueStart regions.setup.net regions.setup.chart.cut regions.setup.start) }
+    ensures last { IfOk result (λ regions. AreAtLast regions) }
+    ensures told { IsOk result → HasTold (W.told_held observer.now) (W.told_freed observer.now) (zero_run layout.entry.net layout.entry.chart.cut 0) layout.entry.net.steps }
 {
     let net = layout.net();
-    let last = net.steps;
     let setup = Setup::zero(alloc, layout, 0)?;
     let mut passes = Vec::with_capacity(alloc, workers as usize)?;
     let (field, mut pass) = Field::open(alloc, &setup, workers + 1)?;
-    take_to_last(rt, &field, &mut pass, &mut passes, workers, last, observer);
-    let Closed { steps: _, regions } = field.close(pass);
-    Ok(regions)
+    take_to_last(
+        rt,
+        &field,
+        &mut pass,
+        &mut passes,
+        workers,
+        net.steps,
+        observer,
+    );
+    let Closed { steps, regions } = field.close(pass);
+    Ok(Regions::new(setup, steps, regions))
 }
 
 // Takes all regions to the last step, with a seat for each worker.
