@@ -1,5 +1,5 @@
 -- Regions of a setup that stand at steps of their own.
-use Rattle.std.specs.Prelude.{◌≡◌, ℕ, ◌<◌, List, length, replicate, slice_index, slice_index_or}
+use Rattle.std.specs.Prelude.{◌≡◌, ℕ, ◌<◌, List, length, slice_index, slice_index_or}
 use Rattle.region_cut.specs.Cuttings.{region_count}
 use Rattle.region_step.specs.Laws.{grid_state}
 use Rattle.region_step.specs.Opened.{IsIn}
@@ -15,11 +15,3 @@ pub record Stands (setup : SetupValue) (q t : ℕ) (region : RegionValue) : Type
 pub record AllStand (setup : SetupValue) (steps : List ℕ) (regions : List RegionValue) : Type 0 where
   pub one_each : length regions ≡ region_count setup.chart.cut
   pub each : (q : ℕ) (region : RegionValue) → q < length regions → Stands setup q (slice_index steps q) (slice_index_or regions q region)
-
--- all stand at step t
-abbrev pub AllStandAt : SetupValue → (t : ℕ) → List RegionValue → Type 0
-AllStandAt setup t regions = AllStand setup (replicate (region_count setup.chart.cut) t) regions
-
--- all stand at the last step
-abbrev pub AllStandAtLast : SetupValue → List RegionValue → Type 0
-AllStandAtLast setup regions = AllStandAt setup setup.net.steps regions
