@@ -29,7 +29,10 @@ pub fn run_rows(alloc: Global, regions: &Regions) -> Result<Vec<Row>, NoMemory>
 /// The delay of such regions: the waits of all cells, parts times steps. At most 200,000 waits of 64 bits fit in 128.
 pub fn run_delay(alloc: Global, regions: &Regions) -> Result<u128, NoMemory>
     requires last { AreAtLast regions.now }
-    ensures delay { IfOk result (λ sum. IsTrueStart regions.now.setup.net regions.now.setup.chart.cut regions.now.setup.start →
+    ensures delay { IfOk result (λ sum. sum ≡ delay_of (last_rows regions.now.setup.net regions.now.setup.chart.cut regions.now.setup.start)) }
+
+    // Of a true start it is that of the plain recurrences, whatever the cutting.
+    ensures recurrences { IfOk result (λ sum. IsTrueStart regions.now.setup.net regions.now.setup.chart.cut regions.now.setup.start →
         sum ≡ delay_of (state_at regions.now.setup.net regions.now.setup.net.steps)) }
     ensures few { IfOk result (λ sum. sum < 2 ^ 96) }
 {

@@ -17,7 +17,7 @@ abbrev pub HasLogged : (count : ℕ) → (starts : List ℕ) → (goal : ℕ) �
 HasLogged count starts goal log =
     (r s : ℕ) → r < count → slice_index starts r ≤ s → s < goal → Contains log (record { region = r; step = s + 1 })
 
--- at these steps its regions are at any goal that all have come to, where none started or went past it
+-- these steps are all the goal, for any goal that all regions have come to and that none started or went past
 abbrev pub AreWhereTheyCame : RunValue → (steps : List ℕ) → Type 0
 AreWhereTheyCame run steps =
     (goal : ℕ) → AllReach (region_count run.terms.setup.now.chart.cut) goal run.knows → run.knows.reach ≤ goal →

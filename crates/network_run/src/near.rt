@@ -23,7 +23,8 @@ const NEAR: u64 = 4;
 
 /// A room with a snapshot of the regions of a setup near the step `until`, or near the last step where that comes first. So
 /// many workers take all regions there from step 0. Then the snapshot is taken while they go on, so it has each region at
-/// that step or at most four steps past it. The observer is told of each step before `until`.
+/// that step or at most four steps past it. The observer is told of each step before `until`. What the setup has recorded
+/// is thrown away.
 pub fn room_near<R: Threads + Sync, W: Observer>(
     rt: &R,
     alloc: Global,
@@ -44,6 +45,7 @@ pub fn room_near<R: Threads + Sync, W: Observer>(
     let mut room = ShotRoom::new(alloc, layout)?;
     let mut run = Run::open(alloc, setup, workers)?;
     run.show_near(rt, layout, &mut room, until.min(net.steps), observer);
+    // That all came to the step is what its log says.
     let _closed = run.close();
     Ok(room)
 }

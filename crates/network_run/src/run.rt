@@ -113,8 +113,7 @@ impl<'a> Run<'a> {
         }
     }
 
-    /// The step of each region and the regions, which have come there from where they start. The step is any goal that all
-    /// have come to, where none has gone past it.
+    /// The step of each region, and the regions, which have come there from where they start.
     pub(crate) fn close(self) -> Closed
         ensures come { HaveCome self.entry.terms.setup.now result.steps.items result.regions.items }
         ensures steps { AreWhereTheyCame self.entry result.steps.items }

@@ -16,7 +16,8 @@ use std::thread::Threads;
 
 /// The regions of a layout at the last step, taken there from step 0 by so many workers. Each is recorded at each step that
 /// `every` divides and at the last one, never where `every` is 0. The observer is told of each of its steps. All memory is
-/// taken before the first step, but for what the workers' deques may ask for and do without.
+/// taken before the first step, but for what the workers' deques may ask for and do without. Where it is refused the layout
+/// is gone.
 pub fn last_regions<'n, R: Threads + Sync, W: Observer>(
     rt: &R,
     alloc: Global,
@@ -38,7 +39,7 @@ pub fn last_regions<'n, R: Threads + Sync, W: Observer>(
 }
 
 /// The regions of a setup at the step `goal`, taken there by so many workers from where they start, none of them past
-/// `goal`. Memory is taken as by `last_regions`.
+/// `goal`. Memory is taken as by `last_regions`; where it is refused the setup is gone.
 pub fn regions_from<'n, R: Threads + Sync, W: Observer>(
     rt: &R,
     alloc: Global,

@@ -30,6 +30,7 @@ pub struct Watched<'n> {
 /// The regions of a setup at the last step, taken there from step 0 by so many workers, with so many shots on the way. The
 /// goals divide the steps evenly, rounded down; each shot is taken between a goal and the next, and at no step past it. All
 /// memory but that of the text is taken before the first step, but for what the workers' deques may ask for and do without.
+/// Where it is refused the setup is gone.
 pub fn watched_regions<'n, R: Threads + Sync, W: Observer>(
     rt: &R,
     alloc: Global,

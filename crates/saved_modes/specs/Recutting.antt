@@ -21,8 +21,8 @@ abbrev pub step_of : Option RegionsValue → ℕ
 step_of None = 0
 step_of (Some regions) = slice_index regions.steps 0
 
--- the regions of a part, all at the step where it ends, taken there from an earlier one where the rows were those of the plain
--- recurrences
+-- the regions of a part, all at the step where it ends and recorded nowhere, taken there from an earlier one where the rows
+-- were those of the plain recurrences
 pub record IsPart (net : Network) (regions : RegionsValue) : Type 0 where
   pub network : regions.setup.net ≡ net
   pub unrecorded : regions.setup.every ≡ 0

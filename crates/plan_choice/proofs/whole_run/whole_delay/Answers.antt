@@ -17,4 +17,4 @@ pub returns-clause-delay : goal.returns-clause-delay
 returns-clause-delay c =
     let net = ap (λ (regions : RegionsValue). regions.setup.net) c.new-2.ensures ∙ ap (λ (setup : SetupValue). setup.net) c.in_ok-setup.ensures.setup ∙ c.in_ok-layout.ensures.network in
     let true_start = subst (λ (regions : RegionsValue). IsTrueStart regions.setup.net regions.setup.chart.cut regions.setup.start) (sym c.new-2.ensures) c.in_ok-setup.ensures.true_start in
-    IfOk-weaker c.run_delay-2.result _ _ (λ sum told. told true_start ∙ ap (λ net. delay_of (state_at net net.steps)) net) c.run_delay-2.ensures.delay
+    IfOk-weaker c.run_delay-2.result _ _ (λ sum told. told true_start ∙ ap (λ net. delay_of (state_at net net.steps)) net) c.run_delay-2.ensures.recurrences
