@@ -1,6 +1,8 @@
-//! What a call answers that got no memory.
+//! What refuses: a fault of some kind, or memory.
 #![tactic(auto)]
 
 mod memory;
+mod refused;
 
 pub use memory::NoMemory;
+pub use refused::Refused;
