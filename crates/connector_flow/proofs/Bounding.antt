@@ -1,35 +1,35 @@
 -- What bounds the flow of a connector, by what it is made of.
 use Rattle.std.specs.Prelude.{Option, Some, None}
 use Rattle.std.proofs.Common.{◌≡◌, ℕ, ◌<◌, ◌≤◌, refl, sym, ◌∙◌, arith}
-use Rattle.courses.specs.Courses.{IsSteady, value_at}
+use Rattle.timelines.specs.Timelines.{IsSteady, value_at}
 use Rattle.signal_plan.specs.Limits.{most_steps}
-use Rattle.courses.specs.Cells.{cell_most}
-use Rattle.connector_flow.specs.Limits.{AreInForce, AreKept, HaveCome, limits_of_courses, limits_in, moved_to}
+use Rattle.timelines.specs.Cells.{cell_most}
+use Rattle.connector_flow.specs.Limits.{AreInForce, AreKept, HaveCome, limits_of_timelines, limits_in, moved_to}
 use Rattle.connector_flow.specs.Weights.{AreWeights}
-use Rattle.connector_flow.specs.declared.limit_courses.LimitCourses.{LimitCourses}
+use Rattle.connector_flow.specs.declared.limit_timelines.LimitTimelines.{LimitTimelines}
 use Rattle.connector_flow.specs.declared.limits.Limits.{Limits}
 
-pub limits-are : (courses : LimitCourses) (limits : Limits) (t : ℕ) → limits.first ≡ cell_most courses.first t → limits.second ≡ cell_most courses.second t →
-    limits.third ≡ cell_most courses.third t → limits.weights ≡ value_at courses.weights t → limits ≡ limits_of_courses courses t
-unfolding limits_of_courses
-limits-are courses limits t first second third weights = rw (← first, ← second, ← third, ← weights) refl
+pub limits-are : (timelines : LimitTimelines) (limits : Limits) (t : ℕ) → limits.first ≡ cell_most timelines.first t → limits.second ≡ cell_most timelines.second t →
+    limits.third ≡ cell_most timelines.third t → limits.weights ≡ value_at timelines.weights t → limits ≡ limits_of_timelines timelines t
+unfolding limits_of_timelines
+limits-are timelines limits t first second third weights = rw (← first, ← second, ← third, ← weights) refl
 
-pub limits-same : (courses : LimitCourses) (s t : ℕ) → cell_most courses.first s ≡ cell_most courses.first t →
-    cell_most courses.second s ≡ cell_most courses.second t → cell_most courses.third s ≡ cell_most courses.third t →
-    value_at courses.weights s ≡ value_at courses.weights t → limits_of_courses courses s ≡ limits_of_courses courses t
-unfolding limits_of_courses
-limits-same courses s t first second third weights = rw (first, second, third, weights) refl
+pub limits-same : (timelines : LimitTimelines) (s t : ℕ) → cell_most timelines.first s ≡ cell_most timelines.first t →
+    cell_most timelines.second s ≡ cell_most timelines.second t → cell_most timelines.third s ≡ cell_most timelines.third t →
+    value_at timelines.weights s ≡ value_at timelines.weights t → limits_of_timelines timelines s ≡ limits_of_timelines timelines t
+unfolding limits_of_timelines
+limits-same timelines s t first second third weights = rw (first, second, third, weights) refl
 
 -- the steps that were come to have no part in them
-pub limits-moved : (courses : LimitCourses) (t s : ℕ) → limits_of_courses (moved_to courses t) s ≡ limits_of_courses courses s
-unfolding limits_of_courses cell_most
-limits-moved courses t s = refl
+pub limits-moved : (timelines : LimitTimelines) (t s : ℕ) → limits_of_timelines (moved_to timelines t) s ≡ limits_of_timelines timelines s
+unfolding limits_of_timelines cell_most
+limits-moved timelines t s = refl
 
-pub weights-moved : (courses : LimitCourses) (t : ℕ) → AreWeights courses.weights → AreWeights (moved_to courses t).weights
-weights-moved courses t within = within
+pub weights-moved : (timelines : LimitTimelines) (t : ℕ) → AreWeights timelines.weights → AreWeights (moved_to timelines t).weights
+weights-moved timelines t within = within
 
-pub come-moved : (courses : LimitCourses) (t : ℕ) → HaveCome (moved_to courses t) t
-come-moved courses t = record {
+pub come-moved : (timelines : LimitTimelines) (t : ℕ) → HaveCome (moved_to timelines t) t
+come-moved timelines t = record {
   first = omega arith;
   second = omega arith;
   third = omega arith;
@@ -37,19 +37,19 @@ come-moved courses t = record {
 }
 
 -- what is in force once they have come to step t
-pub in_force-moved : (courses : LimitCourses) (limits : Limits) (t until : ℕ) → limits ≡ limits_of_courses courses t → IsSteady (limits_of_courses courses) t until → t < until →
-    AreWeights courses.weights → AreInForce (moved_to courses t) limits t until
-in_force-moved courses limits t until is steady later weights = record {
-  steady = λ s from within. limits-moved courses t s ∙ steady s from within ∙ sym is;
+pub in_force-moved : (timelines : LimitTimelines) (limits : Limits) (t until : ℕ) → limits ≡ limits_of_timelines timelines t → IsSteady (limits_of_timelines timelines) t until → t < until →
+    AreWeights timelines.weights → AreInForce (moved_to timelines t) limits t until
+in_force-moved timelines limits t until is steady later weights = record {
+  steady = λ s from within. limits-moved timelines t s ∙ steady s from within ∙ sym is;
   later = later;
-  come = come-moved courses t;
-  weights = weights-moved courses t weights;
+  come = come-moved timelines t;
+  weights = weights-moved timelines t weights;
 }
 
 -- where nothing changes by step t it stays in force
-pub in_force-later : (courses : LimitCourses) (limits : Limits) (step t until : ℕ) → AreInForce courses limits step until → step ≤ t → t < until →
-    AreInForce courses limits t until
-in_force-later courses limits step t until has forward before =
+pub in_force-later : (timelines : LimitTimelines) (limits : Limits) (step t until : ℕ) → AreInForce timelines limits step until → step ≤ t → t < until →
+    AreInForce timelines limits t until
+in_force-later timelines limits step t until has forward before =
     let come = has.come in
     record {
       steady = λ s from within. has.steady s (omega arith) within;
@@ -64,28 +64,28 @@ in_force-later courses limits step t until has forward before =
     }
 
 -- what is kept is in force at its step
-pub kept-limits : (courses : Option LimitCourses) (limits : Limits) (step until : ℕ) → AreKept courses limits step until → limits_in courses limits step ≡ limits
+pub kept-limits : (timelines : Option LimitTimelines) (limits : Limits) (step until : ℕ) → AreKept timelines limits step until → limits_in timelines limits step ≡ limits
 unfolding limits_in
 kept-limits None limits step until has = refl
-kept-limits (Some courses) limits step until has = has.steady step (omega arith) has.later
+kept-limits (Some timelines) limits step until has = has.steady step (omega arith) has.later
 
 -- and later, where nothing changes by then
-pub kept-later : (courses : Option LimitCourses) (limits : Limits) (step t until : ℕ) → AreKept courses limits step until → step ≤ t → t < until →
-    AreKept courses limits t until
+pub kept-later : (timelines : Option LimitTimelines) (limits : Limits) (step t until : ℕ) → AreKept timelines limits step until → step ≤ t → t < until →
+    AreKept timelines limits t until
 kept-later None limits step t until has forward before = has
-kept-later (Some courses) limits step t until has forward before = in_force-later courses limits step t until has forward before
+kept-later (Some timelines) limits step t until has forward before = in_force-later timelines limits step t until has forward before
 
-pub kept-lasting : (courses : Option LimitCourses) (limits : Limits) (step t until : ℕ) → courses ≡ None → AreKept courses limits step until → t ≤ most_steps →
-    AreKept courses limits t until
+pub kept-lasting : (timelines : Option LimitTimelines) (limits : Limits) (step t until : ℕ) → timelines ≡ None → AreKept timelines limits step until → t ≤ most_steps →
+    AreKept timelines limits t until
 kept-lasting None limits step t until none has in_time = has
-kept-lasting (Some courses) limits step t until none has in_time = cc
+kept-lasting (Some timelines) limits step t until none has in_time = cc
 
--- where no courses are kept they stay past the last step
-pub kept-never : (courses : Option LimitCourses) (limits : Limits) (step until : ℕ) → courses ≡ None → AreKept courses limits step until → most_steps < until
+-- where no timelines are kept they stay past the last step
+pub kept-never : (timelines : Option LimitTimelines) (limits : Limits) (step until : ℕ) → timelines ≡ None → AreKept timelines limits step until → most_steps < until
 kept-never None limits step until none has = has
-kept-never (Some courses) limits step until none has = absurd cc
+kept-never (Some timelines) limits step until none has = absurd cc
 
 -- the limits in each step are the same once they have come to step t
-pub limits_in-moved : (courses : LimitCourses) (old new : Limits) (t s : ℕ) → limits_in (Some (moved_to courses t)) new s ≡ limits_in (Some courses) old s
+pub limits_in-moved : (timelines : LimitTimelines) (old new : Limits) (t s : ℕ) → limits_in (Some (moved_to timelines t)) new s ≡ limits_in (Some timelines) old s
 unfolding limits_in
-limits_in-moved courses old new t s = limits-moved courses t s
+limits_in-moved timelines old new t s = limits-moved timelines t s

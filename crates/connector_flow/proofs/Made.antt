@@ -1,4 +1,4 @@
--- A course that is made of a connector's cells is that of the connector.
+-- A timeline that is made of a connector's cells is that of the connector.
 use Rattle.std.specs.Prelude.{All, IfOk, Result, slice_index}
 use Rattle.std.proofs.Common.{◌≡◌, ℕ, zero, suc, ◌<◌, List, [], ◌∷◌, length, get_or, refl, sym, ap, subst, ◌∙◌, arith}
 use Rattle.std.proofs.lemmas.Result.{IfOk-weaker}
@@ -12,19 +12,19 @@ use Rattle.network_file.proofs.NetworkFacts.{connector_at-sound, read_connector}
 use Rattle.connector_flow.specs.Limits.{limits_by}
 use Rattle.connector_flow.specs.Flows.{ConnectorValues, LimitedValues, carried_by, flow_at, limited_flow, limits_of}
 use Rattle.connector_flow.specs.Slowing.{slowed_by}
-use Rattle.connector_flow.specs.Following.{IsConnectorOf, IsCourseOf}
-use Rattle.courses.specs.Courses.{Course, value_at}
+use Rattle.connector_flow.specs.Following.{IsConnectorOf, IsTimelineOf}
+use Rattle.timelines.specs.Timelines.{TimelineValue, value_at}
 use Rattle.connector_flow.specs.declared.limits.Limits.{Limits}
 use Rattle.connector_flow.specs.declared.rule.Rule.{Rule}
 use Rattle.connector_flow.specs.declared.space.Space.{Space}
 use Rattle.connector_flow.specs.declared.rule.Rule.TheVariants.{Linking, Merging, Diverging}
 use Rattle.connector_flow.proofs.Spaces.{receiving-is, sending-is}
 
--- what is carried within the limits of a step is what the course carries then
-pub flow-within : (course : LimitedValues) (limits : Limits) (t : ℕ) (n : List ℕ) → limits_of course t ≡ limits →
-    carried_by course.rule limits course.second_space course.third_space n ≡ limited_flow course t n
+-- what is carried within the limits of a step is what the timeline carries then
+pub flow-within : (timeline : LimitedValues) (limits : Limits) (t : ℕ) (n : List ℕ) → limits_of timeline t ≡ limits →
+    carried_by timeline.rule limits timeline.second_space timeline.third_space n ≡ limited_flow timeline t n
 unfolding limited_flow
-flow-within course limits t n is = ap (λ one. carried_by course.rule one course.second_space course.third_space n) (sym is)
+flow-within timeline limits t n is = ap (λ one. carried_by timeline.rule one timeline.second_space timeline.third_space n) (sym is)
 
 -- the same limits in all steps carry the same
 pub flow-same : (old new : LimitedValues) (t : ℕ) (n : List ℕ) → new.rule ≡ old.rule → new.second_space ≡ old.second_space →
@@ -32,58 +32,58 @@ pub flow-same : (old new : LimitedValues) (t : ℕ) (n : List ℕ) → new.rule 
 unfolding limited_flow
 flow-same old new t n rule second third limits = rw (rule, second, third, limits) refl
 
-flow-made : (net : Network) (rule : Rule) (cells : List ℕ) (weights : Course (ℕ × ℕ)) (course : ConnectorValues) (t : ℕ) (n : List ℕ) →
-    IsConnectorOf net rule cells weights course → t < net.steps →
-    flow_at course t n ≡
-    carried_by rule (limits_by net.plan rule cells weights t) course.limited.second_space course.limited.third_space (slowed_by course.slowing t n)
+flow-made : (net : Network) (rule : Rule) (cells : List ℕ) (weights : TimelineValue (ℕ × ℕ)) (timeline : ConnectorValues) (t : ℕ) (n : List ℕ) →
+    IsConnectorOf net rule cells weights timeline → t < net.steps →
+    flow_at timeline t n ≡
+    carried_by rule (limits_by net.plan rule cells weights t) timeline.limited.second_space timeline.limited.third_space (slowed_by timeline.slowing t n)
 unfolding flow_at
-flow-made net rule cells weights course t n has before =
-    let second : Space = course.limited.second_space in
-    let third : Space = course.limited.third_space in
-    let moving : List ℕ = slowed_by course.slowing t n in
-    ap (λ one. carried_by one (limits_of course.limited t) second third moving) has.rule_is
+flow-made net rule cells weights timeline t n has before =
+    let second : Space = timeline.limited.second_space in
+    let third : Space = timeline.limited.third_space in
+    let moving : List ℕ = slowed_by timeline.slowing t n in
+    ap (λ one. carried_by one (limits_of timeline.limited t) second third moving) has.rule_is
     ∙ ap (λ limits. carried_by rule limits second third moving) (has.made.limits t before)
 
-pub made-link : (net : Network) (up down : ℕ) (weights : Course (ℕ × ℕ)) (course : ConnectorValues) → IsNetwork net →
-    IsSoundConnector net.cells (Link up down) → IsConnectorOf net Linking (up ∷ down ∷ down ∷ []) weights course → IsCourseOf net (Link up down) course
-made-link net up down weights course sound connector made = record {
+pub made-link : (net : Network) (up down : ℕ) (weights : TimelineValue (ℕ × ℕ)) (timeline : ConnectorValues) → IsNetwork net →
+    IsSoundConnector net.cells (Link up down) → IsConnectorOf net Linking (up ∷ down ∷ down ∷ []) weights timeline → IsTimelineOf net (Link up down) timeline
+made-link net up down weights timeline sound connector made = record {
   rule = made.rule_is;
   flow = λ t n before held.
       let there : down < length net.cells = (connector.down 0 0 (omega arith)).0 in
       let s = sending-is net t up (slice_index n 0) in
-      let r = receiving-is net t down (slice_index n 1) course.limited.second_space sound before there made.made.second (held.each 1 (omega arith)) in
+      let r = receiving-is net t down (slice_index n 1) timeline.limited.second_space sound before there made.made.second (held.each 1 (omega arith)) in
       let moving = made.slowing in
-      flow-made net Linking (up ∷ down ∷ down ∷ []) weights course t n made before ∙ rw (moving.first t n, moving.second t n, s, r) refl;
+      flow-made net Linking (up ∷ down ∷ down ∷ []) weights timeline t n made before ∙ rw (moving.first t n, moving.second t n, s, r) refl;
 }
 
-pub made-merge : (net : Network) (up1 up2 down p1 p2 : ℕ) (weights : Course (ℕ × ℕ)) (course : ConnectorValues) → IsNetwork net →
+pub made-merge : (net : Network) (up1 up2 down p1 p2 : ℕ) (weights : TimelineValue (ℕ × ℕ)) (timeline : ConnectorValues) → IsNetwork net →
     IsSoundConnector net.cells (Merge up1 up2 down p1 p2) → ((t : ℕ) → value_at weights t ≡ (p1, p2)) →
-    IsConnectorOf net Merging (up1 ∷ up2 ∷ down ∷ []) weights course → IsCourseOf net (Merge up1 up2 down p1 p2) course
-made-merge net up1 up2 down p1 p2 weights course sound connector are made = record {
+    IsConnectorOf net Merging (up1 ∷ up2 ∷ down ∷ []) weights timeline → IsTimelineOf net (Merge up1 up2 down p1 p2) timeline
+made-merge net up1 up2 down p1 p2 weights timeline sound connector are made = record {
   rule = made.rule_is;
   flow = λ t n before held.
       let there : down < length net.cells = (connector.down 0 0 (omega arith)).0 in
       let s1 = sending-is net t up1 (slice_index n 0) in
       let s2 = sending-is net t up2 (slice_index n 1) in
-      let r = receiving-is net t down (slice_index n 2) course.limited.third_space sound before there made.made.third (held.each 2 (omega arith)) in
+      let r = receiving-is net t down (slice_index n 2) timeline.limited.third_space sound before there made.made.third (held.each 2 (omega arith)) in
       let moving = made.slowing in
-      flow-made net Merging (up1 ∷ up2 ∷ down ∷ []) weights course t n made before
+      flow-made net Merging (up1 ∷ up2 ∷ down ∷ []) weights timeline t n made before
       ∙ rw (moving.first t n, moving.second t n, moving.third t n, s1, s2, r, are t) refl;
 }
 
-pub made-diverge : (net : Network) (up down1 down2 b1 b2 : ℕ) (weights : Course (ℕ × ℕ)) (course : ConnectorValues) → IsNetwork net →
+pub made-diverge : (net : Network) (up down1 down2 b1 b2 : ℕ) (weights : TimelineValue (ℕ × ℕ)) (timeline : ConnectorValues) → IsNetwork net →
     IsSoundConnector net.cells (Diverge up down1 down2 b1 b2) → ((t : ℕ) → value_at weights t ≡ shares_at net.plan up t (b1, b2)) →
-    IsConnectorOf net Diverging (up ∷ down1 ∷ down2 ∷ []) weights course → IsCourseOf net (Diverge up down1 down2 b1 b2) course
-made-diverge net up down1 down2 b1 b2 weights course sound connector are made = record {
+    IsConnectorOf net Diverging (up ∷ down1 ∷ down2 ∷ []) weights timeline → IsTimelineOf net (Diverge up down1 down2 b1 b2) timeline
+made-diverge net up down1 down2 b1 b2 weights timeline sound connector are made = record {
   rule = made.rule_is;
   flow = λ t n before held.
       let there1 : down1 < length net.cells = (connector.down 0 0 (omega arith)).0 in
       let there2 : down2 < length net.cells = (connector.down 1 0 (omega arith)).0 in
       let s = sending-is net t up (slice_index n 0) in
-      let r1 = receiving-is net t down1 (slice_index n 1) course.limited.second_space sound before there1 made.made.second (held.each 1 (omega arith)) in
-      let r2 = receiving-is net t down2 (slice_index n 2) course.limited.third_space sound before there2 made.made.third (held.each 2 (omega arith)) in
+      let r1 = receiving-is net t down1 (slice_index n 1) timeline.limited.second_space sound before there1 made.made.second (held.each 1 (omega arith)) in
+      let r2 = receiving-is net t down2 (slice_index n 2) timeline.limited.third_space sound before there2 made.made.third (held.each 2 (omega arith)) in
       let moving = made.slowing in
-      flow-made net Diverging (up ∷ down1 ∷ down2 ∷ []) weights course t n made before
+      flow-made net Diverging (up ∷ down1 ∷ down2 ∷ []) weights timeline t n made before
       ∙ rw (moving.first t n, moving.second t n, moving.third t n, s, r1, r2, are t) refl;
 }
 
@@ -114,10 +114,10 @@ read-as net items k read connector network same has is_read matched =
     let is = read_connector items net.connectors k read same has is_read ∙ matched in
     record { network = network; is = is; sound = subst (IsSoundConnector net.cells) is (connector_at-sound net k network has) }
 
--- what is made of it is its course
+-- what is made of it is its timeline
 pub made-read : (net : Network) (k : ℕ) (connector : Connector) (Made : ConnectorValues → Type 0) (result : Result ConnectorValues NoMemory) →
-    IsRead net k connector → ((course : ConnectorValues) → Made course → IsCourseOf net connector course) → IfOk result Made →
-    IfOk result (IsCourseOf net (connector_at net.connectors k))
+    IsRead net k connector → ((timeline : ConnectorValues) → Made timeline → IsTimelineOf net connector timeline) → IfOk result Made →
+    IfOk result (IsTimelineOf net (connector_at net.connectors k))
 made-read net k connector Made result read is made =
-    IfOk-weaker result Made (IsCourseOf net (connector_at net.connectors k))
-    (λ course one. subst (λ at. IsCourseOf net at course) (sym read.is) (is course one)) made
+    IfOk-weaker result Made (IsTimelineOf net (connector_at net.connectors k))
+    (λ timeline one. subst (λ at. IsTimelineOf net at timeline) (sym read.is) (is timeline one)) made

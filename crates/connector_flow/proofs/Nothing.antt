@@ -8,10 +8,10 @@ use Rattle.merge_rule.specs.Merge.{merge_of}
 use Rattle.merge_rule.proofs.MergeFacts.{first_flow-room, second_flow-room}
 use Rattle.flow_model.specs.Flows.{diverge_carries, link_carries, merge_carries}
 use Rattle.flow_model.specs.declared.carried.Flow.{Flow}
-use Rattle.connector_flow.specs.Limits.{AreInForce, AreKept, limits_of_courses, limits_in}
+use Rattle.connector_flow.specs.Limits.{AreInForce, AreKept, limits_of_timelines, limits_in}
 use Rattle.connector_flow.specs.Flows.{LimitedValues, carried_by, limited_flow, no_flow}
-use Rattle.courses.specs.Courses.{value_at}
-use Rattle.connector_flow.specs.declared.limit_courses.LimitCourses.{LimitCourses}
+use Rattle.timelines.specs.Timelines.{value_at}
+use Rattle.connector_flow.specs.declared.limit_timelines.LimitTimelines.{LimitTimelines}
 use Rattle.connector_flow.specs.declared.limits.Limits.{Limits}
 
 -- by what their cells have to send
@@ -35,27 +35,27 @@ diverge-none s r1 r2 b1 b2 few =
     nothing-split (min (min (s / (b1 + b2)) (r1 / b1)) (r2 / b2)) b1 b2 (omega (arith, none))
 
 -- what bounds a flow stays until its next change
-pub kept-steady : (courses : Option LimitCourses) (limits : Limits) (step until s : ℕ) → AreKept courses limits step until → step ≤ s → s < until →
-    limits_in courses limits s ≡ limits
+pub kept-steady : (timelines : Option LimitTimelines) (limits : Limits) (step until s : ℕ) → AreKept timelines limits step until → step ≤ s → s < until →
+    limits_in timelines limits s ≡ limits
 unfolding limits_in
 kept-steady None limits step until s has from within = refl
-kept-steady (Some courses) limits step until s has from within = has.steady s from within
+kept-steady (Some timelines) limits step until s has from within = has.steady s from within
 
 -- a connector whose limits never change carries the same in each step
-pub flow-stays : (course : LimitedValues) (s t : ℕ) (n : List ℕ) → course.courses ≡ None → limited_flow course s n ≡ limited_flow course t n
+pub flow-stays : (timeline : LimitedValues) (s t : ℕ) (n : List ℕ) → timeline.timelines ≡ None → limited_flow timeline s n ≡ limited_flow timeline t n
 unfolding limited_flow limits_in
-flow-stays course s t n never = rw never refl
+flow-stays timeline s t n never = rw never refl
 
 -- the weights of a step are those of its limits
-pub weights-of : (courses : LimitCourses) (s : ℕ) → (limits_of_courses courses s).weights ≡ value_at courses.weights s
-unfolding limits_of_courses
-weights-of courses s = refl
+pub weights-of : (timelines : LimitTimelines) (s : ℕ) → (limits_of_timelines timelines s).weights ≡ value_at timelines.weights s
+unfolding limits_of_timelines
+weights-of timelines s = refl
 
-pub weights-in : (courses : LimitCourses) (limits : Limits) (step until : ℕ) → AreInForce courses limits step until → value_at courses.weights step ≡ limits.weights
-weights-in courses limits step until has = sym (weights-of courses step) ∙ ap (λ one. one.weights) (has.steady step (omega arith) has.later)
+pub weights-in : (timelines : LimitTimelines) (limits : Limits) (step until : ℕ) → AreInForce timelines limits step until → value_at timelines.weights step ≡ limits.weights
+weights-in timelines limits step until has = sym (weights-of timelines step) ∙ ap (λ one. one.weights) (has.steady step (omega arith) has.later)
 
--- what a connector carries by its courses
-pub flow-some : (course : LimitedValues) (courses : LimitCourses) (s : ℕ) (n : List ℕ) → course.courses ≡ Some courses →
-    limited_flow course s n ≡ carried_by course.rule (limits_of_courses courses s) course.second_space course.third_space n
+-- what a connector carries by its timelines
+pub flow-some : (timeline : LimitedValues) (timelines : LimitTimelines) (s : ℕ) (n : List ℕ) → timeline.timelines ≡ Some timelines →
+    limited_flow timeline s n ≡ carried_by timeline.rule (limits_of_timelines timelines s) timeline.second_space timeline.third_space n
 unfolding limited_flow limits_in
-flow-some course courses s n some = rw some refl
+flow-some timeline timelines s n some = rw some refl

@@ -5,7 +5,7 @@ use Rattle.signal_plan.specs.Speeds.{IsSpeed, arriving, has_speeds, speed_at}
 use Rattle.signal_plan.proofs.Laws.{arriving-own, speed_at-none}
 use Rattle.network_file.specs.Network.{IsNetwork, Network}
 use Rattle.flow_model.proofs.CellLimits.{speed_at-sound}
-use Rattle.courses.specs.Courses.{Course, value_at}
+use Rattle.timelines.specs.Timelines.{TimelineValue, value_at}
 use Rattle.connector_flow.specs.Flows.{ConnectorValues, flow_at, limited_flow}
 use Rattle.connector_flow.specs.Limits.{sends_second}
 use Rattle.connector_flow.specs.Slowing.{AreSpeeds, AreSpeedsIn, IsSlowing, IsSlowingAs, SlowingValues, sent_in, slowed}
@@ -30,9 +30,9 @@ no-slowing net rule cells first second = record {
     by true none t n = none-slowed net (slice_index cells 1) t (slice_index n 1) (none refl)
     by false none t n = refl
 
-pub speeds-sound : (net : Network) (sends : Bool) (cell : ℕ) (course : Course (ℕ × ℕ)) → IsNetwork net → AreSpeedsIn net sends cell course → AreSpeeds course
-speeds-sound net true cell course sound are = λ t. subst IsSpeed (sym (are t)) (speed_at-sound net cell t sound)
-speeds-sound net false cell course sound are = λ t. subst IsSpeed (sym (are t)) (record { positive = omega arith; ratio = omega arith; small = omega arith })
+pub speeds-sound : (net : Network) (sends : Bool) (cell : ℕ) (timeline : TimelineValue (ℕ × ℕ)) → IsNetwork net → AreSpeedsIn net sends cell timeline → AreSpeeds timeline
+speeds-sound net true cell timeline sound are = λ t. subst IsSpeed (sym (are t)) (speed_at-sound net cell t sound)
+speeds-sound net false cell timeline sound are = λ t. subst IsSpeed (sym (are t)) (record { positive = omega arith; ratio = omega arith; small = omega arith })
 
 -- a connector out of cells with these speeds
 pub some-slowing : (net : Network) (rule : Rule) (cells : List ℕ) (slowing : SlowingValues) → AreSpeedsIn net true (slice_index cells 0) slowing.first →
@@ -50,16 +50,16 @@ some-slowing net rule cells slowing first second step is = record {
     by false t n = arriving-own n
 
 -- what a connector carries in which nothing is slowed
-pub flow-unslowed : (course : ConnectorValues) (t : ℕ) (n : List ℕ) → course.rule ≡ course.limited.rule → course.slowing ≡ None →
-    flow_at course t n ≡ limited_flow course.limited t n
+pub flow-unslowed : (timeline : ConnectorValues) (t : ℕ) (n : List ℕ) → timeline.rule ≡ timeline.limited.rule → timeline.slowing ≡ None →
+    flow_at timeline t n ≡ limited_flow timeline.limited t n
 unfolding flow_at limited_flow
-flow-unslowed course t n rule none = rw (rule, none) refl
+flow-unslowed timeline t n rule none = rw (rule, none) refl
 
 -- and at these speeds
-pub flow-slowed : (course : ConnectorValues) (slowing : SlowingValues) (t : ℕ) (n : List ℕ) → course.rule ≡ course.limited.rule → course.slowing ≡ Some slowing →
-    flow_at course t n ≡ limited_flow course.limited t (slowed (value_at slowing.first t) (value_at slowing.second t) n)
+pub flow-slowed : (timeline : ConnectorValues) (slowing : SlowingValues) (t : ℕ) (n : List ℕ) → timeline.rule ≡ timeline.limited.rule → timeline.slowing ≡ Some slowing →
+    flow_at timeline t n ≡ limited_flow timeline.limited t (slowed (value_at slowing.first t) (value_at slowing.second t) n)
 unfolding flow_at limited_flow
-flow-slowed course slowing t n rule some = rw (rule, some) refl
+flow-slowed timeline slowing t n rule some = rw (rule, some) refl
 
 pub none_of : {X : Type 0} (o : Option X) → is_some o ≡ false → o ≡ None
 none_of None none = refl

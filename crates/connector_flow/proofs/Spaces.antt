@@ -18,7 +18,7 @@ use Rattle.flow_model.proofs.CellKinds.{cell_at}
 use Rattle.flow_model.proofs.CellLimits.{capacity_at-le, most_of}
 use Rattle.connector_flow.specs.Space.{HasSpace, IsSpaceOf, boundless, let_in}
 use Rattle.connector_flow.specs.declared.space.Space.{Space}
-use Rattle.courses.specs.Cells.{most_by}
+use Rattle.timelines.specs.Cells.{most_by}
 use Rattle.connector_flow.specs.Flows.{received}
 
 pub sending-is : (net : Network) (t i n : ℕ) → min (most_by net.plan i true t) (arriving (speed_at net.plan i t) n) ≡ sending_at net t i n

@@ -8,15 +8,15 @@ use Rattle.signal_plan.specs.Turning.{shares_at}
 use Rattle.signal_plan.specs.Limits.{most_steps}
 use Rattle.signal_plan.proofs.Laws.{shares_at-all}
 use Rattle.network_file.specs.Network.{IsNetwork, IsPlannedCell, Network}
-use Rattle.courses.specs.Courses.{Course, value_at}
+use Rattle.timelines.specs.Timelines.{TimelineValue, value_at}
 use Rattle.connector_flow.specs.Weights.{AreBoth, AreWeights, IsWeight}
 
 -- those that never change
-pub constant-within : (weights : Course (ℕ × ℕ)) (a b : ℕ) → ((t : ℕ) → value_at weights t ≡ (a, b)) → IsWeight a → IsWeight b → AreWeights weights
+pub constant-within : (weights : TimelineValue (ℕ × ℕ)) (a b : ℕ) → ((t : ℕ) → value_at weights t ≡ (a, b)) → IsWeight a → IsWeight b → AreWeights weights
 constant-within weights a b is first second = λ t. subst (λ pair. AreBoth pair) (sym (is t)) (record { first = first; second = second })
 
 -- turning shares
-pub shares-within : (net : Network) (weights : Course (ℕ × ℕ)) (up b1 b2 : ℕ) → IsNetwork net → IsWeight b1 → IsWeight b2 →
+pub shares-within : (net : Network) (weights : TimelineValue (ℕ × ℕ)) (up b1 b2 : ℕ) → IsNetwork net → IsWeight b1 → IsWeight b2 →
     ((t : ℕ) → value_at weights t ≡ shares_at net.plan up t (b1, b2)) → AreWeights weights
 shares-within net weights up b1 b2 sound first second is =
     let turns : All (λ planned. All (λ turn. AreBoth (turn.b1, turn.b2)) planned.records.turns) net.plan.cells =

@@ -1,4 +1,4 @@
--- What a connector carries by its course.
+-- What a connector carries by its timeline.
 use Rattle.std.specs.Prelude.{ℕ, List, Option, Some, None, min, slice_index}
 use Rattle.flow_model.specs.Flows.{diverge_carries, link_carries, merge_carries}
 use Rattle.flow_model.specs.declared.carried.Flow.{Flow}
@@ -6,7 +6,7 @@ use Rattle.connector_flow.specs.Space.{let_in}
 use Rattle.connector_flow.specs.declared.space.Space.{Space}
 use Rattle.connector_flow.specs.Limits.{limits_in}
 use Rattle.connector_flow.specs.Slowing.{SlowingValues, slowed_by}
-use Rattle.connector_flow.specs.declared.limit_courses.LimitCourses.{LimitCourses}
+use Rattle.connector_flow.specs.declared.limit_timelines.LimitTimelines.{LimitTimelines}
 use Rattle.connector_flow.specs.declared.limits.Limits.{Limits}
 use Rattle.connector_flow.specs.declared.rule.Rule.{Rule}
 use Rattle.connector_flow.specs.declared.rule.Rule.TheVariants.{Linking, Merging, Diverging}
@@ -15,7 +15,7 @@ use Rattle.connector_flow.specs.declared.rule.Rule.TheVariants.{Linking, Merging
 -- of its second cell and of its third, the step that was come to, and the first at which these limits may change
 pub record LimitedValues : Type 0 where
   pub rule : Rule
-  pub courses : Option LimitCourses
+  pub timelines : Option LimitTimelines
   pub limits : Limits
   pub second_space : Space
   pub third_space : Space
@@ -43,11 +43,11 @@ no_flow = record { out1 = 0; out2 = 0; in1 = 0; in2 = 0 }
 
 -- what bounds its flow in step t
 abbrev pub limits_of : LimitedValues → (t : ℕ) → Limits
-limits_of course t = limits_in course.courses course.limits t
+limits_of timeline t = limits_in timeline.timelines timeline.limits t
 
 -- what it carries in step t where so many parts of its cells' come to their ends
 unfoldable pub limited_flow : LimitedValues → (t : ℕ) → (n : List ℕ) → Flow
-limited_flow course t n = carried_by course.rule (limits_of course t) course.second_space course.third_space n
+limited_flow timeline t n = carried_by timeline.rule (limits_of timeline t) timeline.second_space timeline.third_space n
 
 -- the first step at which its limits or its speeds may change
 abbrev pub until_of : LimitedValues → Option SlowingValues → ℕ
@@ -65,5 +65,5 @@ pub record ConnectorValues : Type 0 where
 
 -- what it carries in step t where its cells hold n
 unfoldable pub flow_at : ConnectorValues → (t : ℕ) → (n : List ℕ) → Flow
-flow_at course t n =
-    carried_by course.rule (limits_of course.limited t) course.limited.second_space course.limited.third_space (slowed_by course.slowing t n)
+flow_at timeline t n =
+    carried_by timeline.rule (limits_of timeline.limited t) timeline.limited.second_space timeline.limited.third_space (slowed_by timeline.slowing t n)

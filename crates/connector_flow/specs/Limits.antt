@@ -2,10 +2,10 @@
 use Rattle.std.specs.Prelude.{◌≡◌, ℕ, ◌<◌, ◌≤◌, Bool, true, false, List, Option, Some, None, slice_index}
 use Rattle.signal_plan.specs.Records.{PlanRecords}
 use Rattle.signal_plan.specs.Limits.{most_steps}
-use Rattle.courses.specs.Cells.{cell_most, most_by}
+use Rattle.timelines.specs.Cells.{cell_most, most_by}
 use Rattle.connector_flow.specs.Weights.{AreWeights}
-use Rattle.courses.specs.Courses.{Course, value_at}
-use Rattle.connector_flow.specs.declared.limit_courses.LimitCourses.{LimitCourses}
+use Rattle.timelines.specs.Timelines.{TimelineValue, value_at}
+use Rattle.connector_flow.specs.declared.limit_timelines.LimitTimelines.{LimitTimelines}
 use Rattle.connector_flow.specs.declared.limits.Limits.{Limits}
 use Rattle.connector_flow.specs.declared.rule.Rule.{Rule}
 use Rattle.connector_flow.specs.declared.rule.Rule.TheVariants.{Linking, Merging, Diverging}
@@ -17,16 +17,16 @@ sends_second Merging = true
 sends_second Diverging = false
 
 -- what bounds the flow in step t
-unfoldable pub limits_of_courses : LimitCourses → (t : ℕ) → Limits
-limits_of_courses courses t = record {
-  first = cell_most courses.first t;
-  second = cell_most courses.second t;
-  third = cell_most courses.third t;
-  weights = value_at courses.weights t;
+unfoldable pub limits_of_timelines : LimitTimelines → (t : ℕ) → Limits
+limits_of_timelines timelines t = record {
+  first = cell_most timelines.first t;
+  second = cell_most timelines.second t;
+  third = cell_most timelines.third t;
+  weights = value_at timelines.weights t;
 }
 
 -- the same by the plan, of a connector of these cells
-abbrev pub limits_by : PlanRecords → Rule → (cells : List ℕ) → Course (ℕ × ℕ) → (t : ℕ) → Limits
+abbrev pub limits_by : PlanRecords → Rule → (cells : List ℕ) → TimelineValue (ℕ × ℕ) → (t : ℕ) → Limits
 limits_by plan rule cells weights t = record {
   first = most_by plan (slice_index cells 0) true t;
   second = most_by plan (slice_index cells 1) (sends_second rule) t;
@@ -35,34 +35,34 @@ limits_by plan rule cells weights t = record {
 }
 
 -- each has come to no step past t
-pub record HaveCome (courses : LimitCourses) (t : ℕ) : Type 0 where
-  pub first : courses.first.capacity.step ≤ t
-  pub second : courses.second.capacity.step ≤ t
-  pub third : courses.third.capacity.step ≤ t
-  pub weights : courses.weights.step ≤ t
+pub record HaveCome (timelines : LimitTimelines) (t : ℕ) : Type 0 where
+  pub first : timelines.first.capacity.step ≤ t
+  pub second : timelines.second.capacity.step ≤ t
+  pub third : timelines.third.capacity.step ≤ t
+  pub weights : timelines.weights.step ≤ t
 
 -- as they are once they have come to step t
-abbrev pub moved_to : LimitCourses → (t : ℕ) → LimitCourses
-moved_to courses t = record {
-  first = record courses.first { capacity = record courses.first.capacity { step = t } };
-  second = record courses.second { capacity = record courses.second.capacity { step = t } };
-  third = record courses.third { capacity = record courses.third.capacity { step = t } };
-  weights = record courses.weights { step = t };
+abbrev pub moved_to : LimitTimelines → (t : ℕ) → LimitTimelines
+moved_to timelines t = record {
+  first = record timelines.first { capacity = record timelines.first.capacity { step = t } };
+  second = record timelines.second { capacity = record timelines.second.capacity { step = t } };
+  third = record timelines.third { capacity = record timelines.third.capacity { step = t } };
+  weights = record timelines.weights { step = t };
 }
 
 -- these limits are in force from the step on until another
-pub record AreInForce (courses : LimitCourses) (limits : Limits) (step until : ℕ) : Type 0 where
-  pub steady : (t : ℕ) → step ≤ t → t < until → limits_of_courses courses t ≡ limits
+pub record AreInForce (timelines : LimitTimelines) (limits : Limits) (step until : ℕ) : Type 0 where
+  pub steady : (t : ℕ) → step ≤ t → t < until → limits_of_timelines timelines t ≡ limits
   pub later : step < until
-  pub come : HaveCome courses step
-  pub weights : AreWeights courses.weights
+  pub come : HaveCome timelines step
+  pub weights : AreWeights timelines.weights
 
--- where nothing changes no courses are kept, and the limits stay past the last step that there may be
-abbrev pub AreKept : Option LimitCourses → Limits → (step until : ℕ) → Type 0
+-- where nothing changes no timelines are kept, and the limits stay past the last step that there may be
+abbrev pub AreKept : Option LimitTimelines → Limits → (step until : ℕ) → Type 0
 AreKept None limits step until = most_steps < until
-AreKept (Some courses) limits step until = AreInForce courses limits step until
+AreKept (Some timelines) limits step until = AreInForce timelines limits step until
 
--- what bounds the flow in step t by the courses that are kept, or by limits that never change
-unfoldable pub limits_in : Option LimitCourses → Limits → (t : ℕ) → Limits
+-- what bounds the flow in step t by the timelines that are kept, or by limits that never change
+unfoldable pub limits_in : Option LimitTimelines → Limits → (t : ℕ) → Limits
 limits_in None limits t = limits
-limits_in (Some courses) limits t = limits_of_courses courses t
+limits_in (Some timelines) limits t = limits_of_timelines timelines t

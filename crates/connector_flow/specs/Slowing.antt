@@ -2,19 +2,19 @@
 use Rattle.std.specs.Prelude.{◌≡◌, ⊤, ℕ, ◌<◌, Bool, List, [], ◌∷◌, Option, Some, None, if◌then◌else◌, slice_index}
 use Rattle.signal_plan.specs.Speeds.{IsSpeed, arriving, speed_at}
 use Rattle.network_file.specs.Network.{Network}
-use Rattle.courses.specs.Courses.{Course, IsSteady, value_at}
+use Rattle.timelines.specs.Timelines.{TimelineValue, IsSteady, value_at}
 use Rattle.connector_flow.specs.Limits.{sends_second}
 use Rattle.connector_flow.specs.declared.rule.Rule.{Rule}
 
 -- the speeds in its first cell and in its second, and the first step at which one may change
 pub record SlowingValues : Type 0 where
-  pub first : Course (ℕ × ℕ)
-  pub second : Course (ℕ × ℕ)
+  pub first : TimelineValue (ℕ × ℕ)
+  pub second : TimelineValue (ℕ × ℕ)
   pub until : ℕ
 
 -- each is a ratio of at most 1
-abbrev pub AreSpeeds : Course (ℕ × ℕ) → Type 0
-AreSpeeds course = (t : ℕ) → IsSpeed (value_at course t)
+abbrev pub AreSpeeds : TimelineValue (ℕ × ℕ) → Type 0
+AreSpeeds timeline = (t : ℕ) → IsSpeed (value_at timeline t)
 
 -- both were followed to one step, and stay from there on until another
 pub record IsSlowing (slowing : SlowingValues) : Type 0 where
@@ -44,8 +44,8 @@ abbrev pub sent_in : Network → (sends : Bool) → (t cell n : ℕ) → ℕ
 sent_in net sends t cell n = if sends then arriving (speed_at net.plan cell t) n else n
 
 -- these are the speeds in a cell, where it sends
-abbrev pub AreSpeedsIn : Network → (sends : Bool) → (cell : ℕ) → Course (ℕ × ℕ) → Type 0
-AreSpeedsIn net sends cell course = (t : ℕ) → value_at course t ≡ (if sends then speed_at net.plan cell t else (1, 1))
+abbrev pub AreSpeedsIn : Network → (sends : Bool) → (cell : ℕ) → TimelineValue (ℕ × ℕ) → Type 0
+AreSpeedsIn net sends cell timeline = (t : ℕ) → value_at timeline t ≡ (if sends then speed_at net.plan cell t else (1, 1))
 
 -- they are the speeds of the cells of a connector with this rule
 pub record IsSlowingAs (net : Network) (rule : Rule) (cells : List ℕ) (slowing : Option SlowingValues) : Type 0 where

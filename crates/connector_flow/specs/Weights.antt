@@ -1,7 +1,7 @@
 -- The weights of a connector: the priorities of a merge, the turning shares of a diverge.
 use Rattle.std.specs.Prelude.{ℕ, ◌≤◌}
 use Rattle.signal_plan.specs.Limits.{most_ratio}
-use Rattle.courses.specs.Courses.{Course, value_at}
+use Rattle.timelines.specs.Timelines.{TimelineValue, value_at}
 
 -- a priority or a turning share
 abbrev pub IsWeight : (weight : ℕ) → Type 0
@@ -13,5 +13,5 @@ pub record AreBoth (pair : ℕ × ℕ) : Type 0 where
   pub second : IsWeight pair.1
 
 -- so are both in each step
-abbrev pub AreWeights : Course (ℕ × ℕ) → Type 0
+abbrev pub AreWeights : TimelineValue (ℕ × ℕ) → Type 0
 AreWeights weights = (t : ℕ) → AreBoth (value_at weights t)

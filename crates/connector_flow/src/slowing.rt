@@ -1,18 +1,18 @@
 ghost use Rattle.std.specs.Prelude.{◌≡◌, ◌≤◌, ◌<◌, ◌&&◌, ℕ, All, IfOk, length};
 ghost use Rattle.signal_plan.specs.Speeds.{has_speeds};
 ghost use Rattle.std.specs.Option.{option_map};
-ghost use Rattle.courses.specs.Courses.{value_at};
+ghost use Rattle.timelines.specs.Timelines.{value_at};
 ghost use Rattle.connector_flow.specs.Slowing.{AreSpeeds, AreSpeedsIn, IsSlowingAs, slowed};
 
-use crate::limit_courses::sends_second;
+use crate::limit_timelines::sends_second;
 use crate::rule::Rule;
-use courses::{Timeline, speed_of};
 use flow_model::arriving;
 use network_file::Net;
 use no_memory::NoMemory;
 use signal_plan::MOST_STEPS;
 use std::alloc::Global;
 use std::marker::Model;
+use timelines::{Timeline, speed_of};
 
 /// The speeds in the cells out of which a connector leads, as ratios to those of their roads, followed forward from step 0.
 #[derive(Drop)]

@@ -14,7 +14,7 @@ use Rattle.region_body.specs.Places.{place_at}
 use Rattle.region_body.specs.declared.place.Place.{Place}
 use Rattle.region_cut.proofs.Anys.{finds}
 use Rattle.region_cut.proofs.Ranges.{range-Contains}
-use Rattle.courses.specs.Links.{most_between}
+use Rattle.timelines.specs.Links.{most_between}
 use Rattle.region_body.specs.FollowedLinks.{AreFollowed, IsLinkThere}
 use Rattle.region_body.specs.declared.followed_link.FollowedLink.{FollowedLink}
 use Rattle.region_body.specs.Chains.{AreDistinct, is_chained, is_joined, is_link, most_out, odd_ones}
@@ -112,7 +112,7 @@ unchained-more net cells connectors j q s within odd =
 pub followed-same : (most later : ℕ → ℕ → ℕ) (places : List Place) (links : List FollowedLink) (t : ℕ) → ((q s : ℕ) → later q s ≡ most q s) →
     AreFollowed most places links t → AreFollowed later places links t
 followed-same most later places links t same followed = record {
-  courses = λ k d within s. followed.courses k d within s ∙ sym (same (get_or links k d).place s);
+  timelines = λ k d within s. followed.timelines k d within s ∙ sym (same (get_or links k d).place s);
   each = λ p within. elim (followed.each p within) [
     | inl constant ↦ inl (λ s from. constant s from ∙ sym (same p s))
     | inr (m, has) ↦ inr (
@@ -131,7 +131,7 @@ pub followed-none : (net : Network) (cells connectors : List ℕ) (places : List
     AreFollowed (most_out net cells (take 0 connectors)) places [] t
 unfolding most_out is_joined
 followed-none net cells connectors places t none = record {
-  courses = λ k d within. absurd (omega arith);
+  timelines = λ k d within. absurd (omega arith);
   each = λ p within. inl (λ s from. none p);
 }
 
@@ -156,7 +156,7 @@ pub record AreJoined (net : Network) (t : ℕ) (cells halo connectors : List ℕ
   pub followed : AreFollowed (most_out net cells connectors) places links t
   pub numbers : map (λ followed. followed.number) others ≡ odd_ones net cells connectors
   pub connected : All (IsConnected net cells halo) others
-  pub come : All (λ followed. followed.course.step ≤ t) others
+  pub come : All (λ followed. followed.timeline.step ≤ t) others
 
 pub joined-none : (net : Network) (t : ℕ) (cells halo connectors : List ℕ) (places : List Place) → ((p : ℕ) → (place_at places p).most ≡ 0) →
     AreJoined net t cells halo (take 0 connectors) places places [] []
@@ -199,7 +199,7 @@ joined-chained net t cells halo connectors first places after links later others
 -- another more
 pub joined-odd : (net : Network) (t : ℕ) (cells halo connectors : List ℕ) (first places : List Place) (links : List FollowedLink) (others : List FollowedConnector) (followed : FollowedConnector)
     (j : ℕ) → j < length connectors → is_chained cells (connector_at net.connectors (get_or connectors j 0)) ≡ false →
-    followed.number ≡ get_or connectors j 0 → IsConnected net cells halo followed → followed.course.step ≡ 0 →
+    followed.number ≡ get_or connectors j 0 → IsConnected net cells halo followed → followed.timeline.step ≡ 0 →
     AreJoined net t cells halo (take j connectors) first places links others →
     AreJoined net t cells halo (take (j + 1) connectors) first places links (others ++ followed ∷ [])
 joined-odd net t cells halo connectors first places links others followed j within odd number connected step has = record {
@@ -213,5 +213,5 @@ joined-odd net t cells halo connectors first places links others followed j with
   numbers = map-append (λ followed. followed.number) others (followed ∷ []) ∙ ap (λ list. list ++ followed.number ∷ []) has.numbers
       ∙ ap (λ k. odd_ones net cells (take j connectors) ++ k ∷ []) number ∙ sym (odd-more net cells connectors j false within odd);
   connected = All-push (IsConnected net cells halo) others followed has.connected connected;
-  come = All-push (λ followed. followed.course.step ≤ t) others followed has.come (omega arith);
+  come = All-push (λ followed. followed.timeline.step ≤ t) others followed has.come (omega arith);
 }

@@ -23,7 +23,7 @@ use Rattle.flow_model.proofs.Locality.{leads_into-touches, leads_out_of-touches}
 use Rattle.region_body.specs.Places.{link_in, link_out, place_at}
 use Rattle.connector_flow.specs.Space.{HasSpace, IsSpaceOf}
 use Rattle.region_body.specs.declared.place.Place.{Place}
-use Rattle.courses.specs.Links.{most_between}
+use Rattle.timelines.specs.Links.{most_between}
 use Rattle.region_cut.proofs.Anys.{found, finds, not_false}
 use Rattle.region_cut.proofs.Ranges.{Contains-filter_range, filter_range-Contains, range-Contains}
 use Rattle.region_body.specs.Moves.{in_by, out_by}

@@ -37,7 +37,7 @@ pub begun-all : (t j : ℕ) (first connectors : List FollowedConnector) → leng
 begun-all t j first connectors whole begun = record { long = begun.long; each = λ k d within. begun.done k d (omega arith) }
 
 -- connectors none of which changes by step t need not be followed
-pub followed-yet : (t until : ℕ) (connectors : List FollowedConnector) → All (λ connector. connector.course.step ≤ t) connectors → All (λ connector. until ≤ connector.course.until) connectors → t < until →
+pub followed-yet : (t until : ℕ) (connectors : List FollowedConnector) → All (λ connector. connector.timeline.step ≤ t) connectors → All (λ connector. until ≤ connector.timeline.until) connectors → t < until →
     AreConnectorsFollowed t connectors connectors
 followed-yet t until connectors come unchanged before = record {
   long = refl;
@@ -56,9 +56,9 @@ connector-followed : (net : Network) (cells halo : List ℕ) (t : ℕ) (old new 
 connector-followed net cells halo t old new connector carried = record {
   there = rw carried.number connector.there;
   refs = rw (carried.number, carried.cells) connector.refs;
-  course = rw carried.number (record {
-    rule = carried.rule ∙ connector.course.rule;
-    flow = λ s n before held. carried.flow s n ∙ connector.course.flow s n before held;
+  timeline = rw carried.number (record {
+    rule = carried.rule ∙ connector.timeline.rule;
+    flow = λ s n before held. carried.flow s n ∙ connector.timeline.flow s n before held;
   });
 }
 
@@ -75,6 +75,6 @@ connected-followed net cells halo t old new connected carried = record {
 pub numbers-followed : (t : ℕ) (old new : List FollowedConnector) → AreConnectorsFollowed t old new → map (λ connector. connector.number) new ≡ map (λ connector. connector.number) old
 numbers-followed t old new carried = map-same (λ connector. connector.number) old new carried.long (λ k d within. (carried.each k d within).number)
 
-pub come-followed : (t : ℕ) (old new : List FollowedConnector) → AreConnectorsFollowed t old new → All (λ connector. connector.course.step ≤ t + 1) new
+pub come-followed : (t : ℕ) (old new : List FollowedConnector) → AreConnectorsFollowed t old new → All (λ connector. connector.timeline.step ≤ t + 1) new
 come-followed t old new carried = λ k d within.
     let is = (carried.each k d (omega (arith, carried.long))).step in omega (arith, is)

@@ -6,8 +6,8 @@ use Rattle.std.proofs.lemmas.Bool.{cases_eq}
 use Rattle.std.proofs.lemmas.List.{get_or-set_same, get_or-set_other}
 use Rattle.region_body.specs.Places.{no_place, place_at}
 use Rattle.region_body.specs.declared.place.Place.{Place}
-use Rattle.courses.specs.Links.{most_at}
-use Rattle.region_body.specs.FollowedLinks.{AreFollowed, IsChanged, IsCourse, IsFollowed, IsLinkThere, IsUnchanged}
+use Rattle.timelines.specs.Links.{most_at}
+use Rattle.region_body.specs.FollowedLinks.{AreFollowed, IsChanged, IsTimeline, IsFollowed, IsLinkThere, IsUnchanged}
 use Rattle.region_body.specs.declared.followed_link.FollowedLink.{FollowedLink}
 
 -- the first j links are refreshed: all follow on, no place has changed but for its most, and where one of the first j
@@ -39,27 +39,27 @@ pub record IsStep (most : ℕ → ℕ → ℕ) (places : List Place) (links : Li
   pub read : (d : FollowedLink) → get_or links j d ≡ old
   pub there : old.place < length places
   pub its : new.place ≡ old.place
-  pub course : (s : ℕ) → most_at new.course s ≡ most_at old.course s
+  pub timeline : (s : ℕ) → most_at new.timeline s ≡ most_at old.timeline s
   pub only_most : after ≡ record (place_at places old.place) { most = after.most }
   pub due : IsUnchanged old new (place_at places old.place) after t ⊎ IsChanged old new after t
 
-old-course : (most : ℕ → ℕ → ℕ) (places : List Place) (links : List FollowedLink) (t j : ℕ) (old new : FollowedLink) (after : Place) →
-    IsStep most places links t j old new after → All (IsCourse most) links → IsCourse most old
-old-course most places links t j old new after step courses = rw (step.read old) at (courses j old step.within)
+old-timeline : (most : ℕ → ℕ → ℕ) (places : List Place) (links : List FollowedLink) (t j : ℕ) (old new : FollowedLink) (after : Place) →
+    IsStep most places links t j old new after → All (IsTimeline most) links → IsTimeline most old
+old-timeline most places links t j old new after step timelines = rw (step.read old) at (timelines j old step.within)
 
 kept : (most : ℕ → ℕ → ℕ) (places : List Place) (links : List FollowedLink) (t j : ℕ) (old new : FollowedLink) (after : Place) →
-    IsStep most places links t j old new after → All (IsCourse most) links → Kept most (place_at places old.place) after old.place t
-kept most places links t j old new after step courses = elim step.due [
+    IsStep most places links t j old new after → All (IsTimeline most) links → Kept most (place_at places old.place) after old.place t
+kept most places links t j old new after step timelines = elim step.due [
   | inl same ↦ inl same.most
-  | inr now ↦ inr (now.most ∙ old-course most places links t j old new after step courses t)
+  | inr now ↦ inr (now.most ∙ old-timeline most places links t j old new after step timelines t)
 ]
 
-courses-more : (most : ℕ → ℕ → ℕ) (places : List Place) (links : List FollowedLink) (t j : ℕ) (old new : FollowedLink) (after : Place) →
-    IsStep most places links t j old new after → All (IsCourse most) links → All (IsCourse most) (set links j new)
-courses-more most places links t j old new after step courses = λ k d within. elim (cases_eq k j) [
+timelines-more : (most : ℕ → ℕ → ℕ) (places : List Place) (links : List FollowedLink) (t j : ℕ) (old new : FollowedLink) (after : Place) →
+    IsStep most places links t j old new after → All (IsTimeline most) links → All (IsTimeline most) (set links j new)
+timelines-more most places links t j old new after step timelines = λ k d within. elim (cases_eq k j) [
   | inl same ↦ rw (same, get_or-set_same links j new d step.within)
-      (λ s. step.course s ∙ old-course most places links t j old new after step courses s ∙ ap (λ p. most p s) (sym step.its))
-  | inr other ↦ rw (get_or-set_other links j k new d other) (courses k d (omega (arith, length-set links j new)))
+      (λ s. step.timeline s ∙ old-timeline most places links t j old new after step timelines s ∙ ap (λ p. most p s) (sym step.its))
+  | inr other ↦ rw (get_or-set_other links j k new d other) (timelines k d (omega (arith, length-set links j new)))
 ]
 
 -- another link than the one of this step
@@ -75,17 +75,17 @@ other-link most place after links t j p m new other has stays = record {
 
 -- the link of this step follows its place on
 this-link : (most : ℕ → ℕ → ℕ) (places : List Place) (links : List FollowedLink) (t j : ℕ) (old new : FollowedLink) (after : Place) →
-    IsStep most places links t j old new after → All (IsCourse most) links → IsFollowed most (place_at places old.place) links t old.place j →
+    IsStep most places links t j old new after → All (IsTimeline most) links → IsFollowed most (place_at places old.place) links t old.place j →
     IsFollowed most after (set links j new) t old.place j
-this-link most places links t j old new after step courses has = record {
+this-link most places links t j old new after step timelines has = record {
   there = rw (length-set links j new) step.within;
   its = λ d. rw (get_or-set_same links j new d step.within) step.its;
   steady = λ d s from within.
       let before : s < new.until = rw (get_or-set_same links j new d step.within) at within in
-      let course = old-course most places links t j old new after step courses in
+      let timeline = old-timeline most places links t j old new after step timelines in
       elim step.due [
         | inl same ↦ same.most ∙ has.steady old s from (rw (step.read old) (omega (arith, same.until)))
-        | inr now ↦ now.most ∙ sym (now.steady s from before) ∙ course s
+        | inr now ↦ now.most ∙ sym (now.steady s from before) ∙ timeline s
       ];
 }
 
@@ -96,12 +96,12 @@ followed-here : (most : ℕ → ℕ → ℕ) (places : List Place) (links : List
 followed-here most places links t j old new after step followed =
     let q : ℕ = old.place in
     let before : Place = place_at places q in
-    let keeps = kept most places links t j old new after step followed.courses in
+    let keeps = kept most places links t j old new after step followed.timelines in
     elim (followed.each q step.there) [
       | inl constant ↦ inl (λ s from. kept-constant most before after q t s keeps constant from)
       | inr (m, has) ↦ elim (cases_eq m j) [
         | inl same ↦
-            inr (j, this-link most places links t j old new after step followed.courses (subst (λ k. IsFollowed most before links t q k) same has))
+            inr (j, this-link most places links t j old new after step followed.timelines (subst (λ k. IsFollowed most before links t q k) same has))
         | inr other ↦
             inr (m, other-link most before after links t j q m new other has (λ u s steady from within. kept-steady most before after q t u s keeps steady from within))
       ]
@@ -123,7 +123,7 @@ followed-there most places links t j p old new after step followed lt other = el
 pub followed-more : (most : ℕ → ℕ → ℕ) (places : List Place) (links : List FollowedLink) (t j : ℕ) (old new : FollowedLink) (after : Place) →
     IsStep most places links t j old new after → AreFollowed most places links t → AreFollowed most (set places old.place after) (set links j new) t
 followed-more most places links t j old new after step followed = record {
-  courses = courses-more most places links t j old new after step followed.courses;
+  timelines = timelines-more most places links t j old new after step followed.timelines;
   each = λ p lt. elim (cases_eq p old.place) [
     | inl same ↦
         rw (same, get_or-set_same places old.place after no_place step.there) (followed-here most places links t j old new after step followed)
@@ -151,7 +151,7 @@ now-here : (most : ℕ → ℕ → ℕ) (first places : List Place) (links : Lis
 now-here most first places links t j m old new after step refreshed below has =
     let q : ℕ = old.place in
     elim step.due [
-      | inr now ↦ now.most ∙ old-course most places links t j old new after step refreshed.followed.courses t
+      | inr now ↦ now.most ∙ old-timeline most places links t j old new after step refreshed.followed.timelines t
       | inl same ↦ elim (cases_eq m j) [
         | inl this ↦
             let until : t < (get_or (set links j new) m old).until =
@@ -225,7 +225,7 @@ refreshed-all most first places links t j p refreshed all within =
 
 -- links that are there stay there
 pub there-more : (places t j : ℕ) (links : List FollowedLink) (old new : FollowedLink) → j < length links → get_or links j old ≡ old →
-    new.place ≡ old.place → new.course.step ≤ t → All (IsLinkThere places t) links → All (IsLinkThere places t) (set links j new)
+    new.place ≡ old.place → new.timeline.step ≤ t → All (IsLinkThere places t) links → All (IsLinkThere places t) (set links j new)
 there-more places t j links old new within read its step there = λ k d inside. elim (cases_eq k j) [
   | inl same ↦
       let was = rw read at (there j old within) in

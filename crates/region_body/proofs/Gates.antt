@@ -33,7 +33,7 @@ demands-into net t cells p gates all =
 
 -- gates that are kept
 
-pub kept-none : (t : ℕ) (gates : List GatePlace) → All (λ gate. gate.course.step ≤ t) gates → AreGatesKept t gates gates
+pub kept-none : (t : ℕ) (gates : List GatePlace) → All (λ gate. gate.timeline.step ≤ t) gates → AreGatesKept t gates gates
 kept-none t gates come = record { long = refl; each = λ k d within. record { place = refl; demand = λ s. refl; step = come k d within } }
 
 pub kept-set : (t : ℕ) (old new : List GatePlace) (m : ℕ) (gate : GatePlace) → AreGatesKept t old new → m < length old →

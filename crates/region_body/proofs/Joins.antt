@@ -7,17 +7,17 @@ use Rattle.std.proofs.lemmas.List.Elements.{All-push}
 use Rattle.signal_plan.specs.Records.{PlanRecords}
 use Rattle.region_body.specs.Places.{no_place, place_at}
 use Rattle.region_body.specs.declared.place.Place.{Place}
-use Rattle.courses.specs.Courses.{IsSteady}
-use Rattle.courses.specs.Links.{LinkValues, most_at, most_between}
-use Rattle.region_body.specs.FollowedLinks.{AreFollowed, IsCourse, IsFollowed}
+use Rattle.timelines.specs.Timelines.{IsSteady}
+use Rattle.timelines.specs.Links.{LinkValues, most_at, most_between}
+use Rattle.region_body.specs.FollowedLinks.{AreFollowed, IsTimeline, IsFollowed}
 use Rattle.region_body.specs.declared.followed_link.FollowedLink.{FollowedLink}
 use Rattle.region_body.specs.Joining.{Extends}
 
--- the course of the link from the p-th cell to the next, and what its place carries at most from step t on
-pub record IsJoined (plan : PlanRecords) (cells : List ℕ) (p t : ℕ) (course : LinkValues) (value until : ℕ) : Type 0 where
-  pub course_is : (s : ℕ) → most_at course s ≡ most_between plan (slice_index cells p) (slice_index cells (p + 1)) s
-  pub value_is : value ≡ most_at course t
-  pub steady : IsSteady (most_at course) t until
+-- the timeline of the link from the p-th cell to the next, and what its place carries at most from step t on
+pub record IsJoined (plan : PlanRecords) (cells : List ℕ) (p t : ℕ) (timeline : LinkValues) (value until : ℕ) : Type 0 where
+  pub timeline_is : (s : ℕ) → most_at timeline s ≡ most_between plan (slice_index cells p) (slice_index cells (p + 1)) s
+  pub value_is : value ≡ most_at timeline t
+  pub steady : IsSteady (most_at timeline) t until
 
 -- the other places
 others-follow : (plan : PlanRecords) (cells : List ℕ) (most later : ℕ → ℕ → ℕ) (place : Place) (links after : List FollowedLink) (t p q m : ℕ) →
@@ -33,16 +33,16 @@ others-follow plan cells most later place links after t p q m extends other long
 
 -- the most never changes
 pub joined-constant : (plan : PlanRecords) (cells : List ℕ) (most later : ℕ → ℕ → ℕ) (places : List Place) (links : List FollowedLink) (t p : ℕ)
-    (course : LinkValues) (value until : ℕ) → p < length places → IsJoined plan cells p t course value until →
-    ((s u : ℕ) → most_at course s ≡ most_at course u) → AreFollowed most places links t → Extends plan cells p links most later →
+    (timeline : LinkValues) (value until : ℕ) → p < length places → IsJoined plan cells p t timeline value until →
+    ((s u : ℕ) → most_at timeline s ≡ most_at timeline u) → AreFollowed most places links t → Extends plan cells p links most later →
     AreFollowed later (set places p (record (place_at places p) { most = value })) links t
-joined-constant plan cells most later places links t p course value until there joined constant followed extends =
+joined-constant plan cells most later places links t p timeline value until there joined constant followed extends =
     let place : Place = record (place_at places p) { most = value } in
     record {
-      courses = λ k d within s. followed.courses k d within s ∙ sym (extends.linked k d within s);
+      timelines = λ k d within s. followed.timelines k d within s ∙ sym (extends.linked k d within s);
       each = λ q lt. elim (cases_eq q p) [
         | inl same ↦ rw (same, get_or-set_same places p place no_place there)
-            (inl (λ s from. joined.value_is ∙ constant t s ∙ joined.course_is s ∙ sym (extends.here s)))
+            (inl (λ s from. joined.value_is ∙ constant t s ∙ joined.timeline_is s ∙ sym (extends.here s)))
         | inr other ↦ rw (get_or-set_other places p q place no_place other)
             (elim (followed.each q (omega (arith, length-set places p place))) [
               | inl steady ↦ inl (λ s from. steady s from ∙ sym (extends.others q s other))
@@ -53,7 +53,7 @@ joined-constant plan cells most later places links t p course value until there 
 
 -- the most changes, and a link follows it
 pub joined-followed : (plan : PlanRecords) (cells : List ℕ) (most later : ℕ → ℕ → ℕ) (places : List Place) (links : List FollowedLink) (t p : ℕ)
-    (link : FollowedLink) (value : ℕ) → p < length places → IsJoined plan cells p t link.course value link.until → link.place ≡ p →
+    (link : FollowedLink) (value : ℕ) → p < length places → IsJoined plan cells p t link.timeline value link.until → link.place ≡ p →
     AreFollowed most places links t → Extends plan cells p links most later →
     AreFollowed later (set places p (record (place_at places p) { most = value })) (links ++ link ∷ []) t
 joined-followed plan cells most later places links t p link value there joined its followed extends =
@@ -61,8 +61,8 @@ joined-followed plan cells most later places links t p link value there joined i
     let after : List FollowedLink = links ++ link ∷ [] in
     let longer = length_push links link in
     record {
-      courses = All-push (IsCourse later) links link (λ k d within s. followed.courses k d within s ∙ sym (extends.linked k d within s))
-          (λ s. joined.course_is s ∙ sym (extends.here s) ∙ ap (λ q. later q s) (sym its));
+      timelines = All-push (IsTimeline later) links link (λ k d within s. followed.timelines k d within s ∙ sym (extends.linked k d within s))
+          (λ s. joined.timeline_is s ∙ sym (extends.here s) ∙ ap (λ q. later q s) (sym its));
       each = λ q lt. elim (cases_eq q p) [
         | inl same ↦ rw (same, get_or-set_same places p place no_place there)
             (inr (
@@ -72,7 +72,7 @@ joined-followed plan cells most later places links t p link value there joined i
                 its = λ d. ap (λ one. one.place) (get_or_push links link d (length links) refl) ∙ its;
                 steady = λ d s from within.
                     joined.value_is ∙ sym (joined.steady s from (rw (get_or_push links link d (length links) refl) at within))
-                    ∙ joined.course_is s ∙ sym (extends.here s);
+                    ∙ joined.timeline_is s ∙ sym (extends.here s);
               },
             ))
         | inr other ↦ rw (get_or-set_other places p q place no_place other)

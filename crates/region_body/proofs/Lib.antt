@@ -1,7 +1,7 @@
 pub mod Neighbours
 pub mod Sets
 pub mod AtSpeeds
-pub mod SpeedCourses
+pub mod SpeedTimelines
 pub mod ZonesMade
 pub mod Swept
 pub mod LinkFlows

@@ -18,8 +18,8 @@ use Rattle.region_body.specs.Places.{carried}
 use Rattle.connector_flow.specs.Space.{HasSpace, IsSpaceOf, let_in}
 use Rattle.region_body.specs.declared.place.Place.{Place}
 use Rattle.region_body.proofs.LinkFlows.{link_flow-is}
-use Rattle.courses.specs.Cells.{most_by}
-use Rattle.courses.specs.Links.{most_between}
+use Rattle.timelines.specs.Cells.{most_by}
+use Rattle.timelines.specs.Links.{most_between}
 use Rattle.region_cut.proofs.Anys.{first_of_both, second_of_both, found}
 use Rattle.region_body.specs.Chains.{HasNoNext, IsNextAt, is_chained, is_link}
 

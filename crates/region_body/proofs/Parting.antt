@@ -131,7 +131,7 @@ carried-is net t n cells halo others places put followed scene seen connected =
     let connector : Connector = connector_at net.connectors followed.number in
     let at : (m : ℕ) → m < 3 → IsHeldInBounds net t (slice_index (three_cells connector) m) (held_in places put (ref_at followed.cells m)) =
     λ m few. held-bounded net t cells halo others places put (slice_index (three_cells connector) m) (ref_at followed.cells m) scene (connected.refs m few) in
-    connected.course.flow t (three_held followed (held_in places put)) scene.before
+    connected.timeline.flow t (three_held followed (held_in places put)) scene.before
     (three_in_bounds net t connector _ _ _ (at 0 (omega arith)) (at 1 (omega arith)) (at 2 (omega arith)))
     ∙ cells-held net t n cells halo places put followed seen connected
 
@@ -141,7 +141,7 @@ refs-there net cells halo places put followed place_each put_each connected m fe
     is-within cells halo places put (slice_index (three_cells (connector_at net.connectors followed.number)) m) (ref_at followed.cells m) place_each put_each (connected.refs m few)
 
 pub can_carry : (net : Network) (t : ℕ) (cells halo : List ℕ) (others : List FollowedConnector) (places : List Place) (put : List (Option ℕ)) (followed : FollowedConnector) →
-    IsScene net t cells halo others places put → IsConnected net cells halo followed → followed.course.step ≤ t → t < followed.course.until → CanCarry t followed places put
+    IsScene net t cells halo others places put → IsConnected net cells halo followed → followed.timeline.step ≤ t → t < followed.timeline.until → CanCarry t followed places put
 can_carry net t cells halo others places put followed scene connected step until =
     record {
       refs = refs-there net cells halo places put followed scene.place_each scene.put_each connected;
@@ -163,9 +163,9 @@ moves-as net t n cells halo others places put held p followed scene seen same wi
     let flow : Flow = carried_of t followed held in
     let is : flow ≡ flow_of net t n connector =
     carried-same t held (held_in places put) followed same ∙ carried-is net t n cells halo others places put followed scene seen connected in (
-      ap (λ rule. taken_by rule followed flow p) connected.course.rule ∙ taken-from net others cells halo connector followed flow p scene.connected within connected.refs
+      ap (λ rule. taken_by rule followed flow p) connected.timeline.rule ∙ taken-from net others cells halo connector followed flow p scene.connected within connected.refs
           ∙ ap (leaving (slice_index cells p) connector) is,
-      ap (λ rule. brought_by rule followed flow p) connected.course.rule ∙ brought-to net others cells halo connector followed flow p scene.connected within connected.refs
+      ap (λ rule. brought_by rule followed flow p) connected.timeline.rule ∙ brought-to net others cells halo connector followed flow p scene.connected within connected.refs
           ∙ ap (entering (slice_index cells p) connector) is,
     )
 

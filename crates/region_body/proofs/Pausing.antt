@@ -19,8 +19,8 @@ use Rattle.region_body.specs.declared.cell_ref.CellRef.{CellRef}
 use Rattle.region_body.specs.declared.cell_ref.CellRef.TheVariants.{Own, Halo}
 use Rattle.region_body.specs.declared.place.Place.{Place}
 use Rattle.region_body.proofs.Neighbours.{link_in-first, link_in-more, place_at-past}
-use Rattle.courses.specs.Cells.{CellValues}
-use Rattle.courses.specs.Courses.{Course, value_at}
+use Rattle.timelines.specs.Cells.{CellValues}
+use Rattle.timelines.specs.Timelines.{TimelineValue, value_at}
 use Rattle.region_body.specs.FollowedLinks.{AreFollowed}
 use Rattle.region_body.specs.declared.followed_link.FollowedLink.{FollowedLink}
 use Rattle.region_body.specs.Carrying.{three_held}
@@ -90,9 +90,9 @@ limited-next net cells connectors t places p place = elim (cases_lt p (length pl
 ]
 
 no_followed : FollowedLink
-no_followed = record { place = 0; until = 0; course = record { up = no_cell; down = no_cell; step = 0 } }
+no_followed = record { place = 0; until = 0; timeline = record { up = no_cell; down = no_cell; step = 0 } }
   where
-    no_numbers : Course ℕ
+    no_numbers : TimelineValue ℕ
     no_numbers = record { start = 0; changes = []; step = 0 }
 
     no_cell : CellValues
@@ -132,7 +132,7 @@ limited-still net cells connectors t until speeds_until places speeds links othe
 -- the other connectors
 
 still-flow : (net : Network) (t : ℕ) (n : ℕ → ℕ) (cells halo : List ℕ) (others : List FollowedConnector) (places : List Place) (put : List (Option ℕ)) (until k : ℕ) (followed : FollowedConnector) →
-    IsScene net t cells halo others places put → IsSeen n cells halo places put → All (λ followed. followed.course.step ≤ t) others → All (IsIdleUntil places put until) others →
+    IsScene net t cells halo others places put → IsSeen n cells halo places put → All (λ followed. followed.timeline.step ≤ t) others → All (IsIdleUntil places put until) others →
     t < until → k < length others → flow_of net t n (connector_at net.connectors (get_or others k followed).number) ≡ no_flow
 still-flow net t n cells halo others places put until k followed scene seen come idle before there =
     sym (carried-is net t n cells halo others places put (get_or others k followed) scene seen (scene.connected.each k followed there))
@@ -146,7 +146,7 @@ none-in : (net : Network) (t i : ℕ) (n : ℕ → ℕ) (k : ℕ) → flow_of ne
 none-in net t i n k none =
     let is = ap (entering i (connector_at net.connectors k)) none ∙ amount_beside-nothing i _ in omega (arith, is)
 
-none-demanded : (t p : ℕ) (gates : List GatePlace) → All (λ gate. value_at gate.course t ≡ 0) gates → sum_by (demand_into t p) gates ≡ 0
+none-demanded : (t p : ℕ) (gates : List GatePlace) → All (λ gate. value_at gate.timeline t ≡ 0) gates → sum_by (demand_into t p) gates ≡ 0
 none-demanded t p gates none = sum_by-zero (demand_into t p) gates (λ k d within.
     let gate : GatePlace = get_or gates k d in
     let is : demand_into t p gate ≡ 0 = ap (λ x. if gate.place == p then x else 0) (none k d within) ∙ neither (gate.place == p) 0 in
@@ -188,7 +188,7 @@ still net t n cells halo connectors placed put sound before has bounds seen wait
     wait.paused (omega (arith, has.one_each)) in
     let moves : IsMoved net t n cells places (λ p. 0) (λ p. 0) =
     steps-moved net cells halo connectors t n placed places (λ p. 0) (λ p. 0) (λ p. 0) put sound before has bounds seen
-    (renewed-of net cells connectors t placed.speeds_until placed now placed.speed_courses placed.speeds sound has.around has.one_each
+    (renewed-of net cells connectors t placed.speeds_until placed now placed.speed_timelines placed.speeds sound has.around has.one_each
     (length-limited net cells connectors t placed.places) (limited-at net cells connectors t placed.places) has.speeds (omega (arith, wait.paused, idle.stays))) parts
     (λ p. omega (arith, none-demanded t p placed.gates wait.demand_nothing)) in
     λ p within. (
@@ -278,13 +278,13 @@ idle-waited places speeds speeds_until links others put until idle = record {
     | inr later ↦ inr later
   ];
   carry_nothing = λ k d within s from before.
-      ap (flow_at (get_or others k d).course s) (three-waited (get_or others k d) places put) ∙ idle.carry_nothing k d within s from before;
+      ap (flow_at (get_or others k d).timeline s) (three-waited (get_or others k d) places put) ∙ idle.carry_nothing k d within s from before;
 }
 
 followed-waited : (most : ℕ → ℕ → ℕ) (places : List Place) (links : List FollowedLink) (t : ℕ) → AreFollowed most places links t →
     AreFollowed most (map (waited 1) places) links (t + 1)
 followed-waited most places links t has = record {
-  courses = has.courses;
+  timelines = has.timelines;
   each = λ p within.
       let here : p < length places = omega (arith, within, length-waited 1 places) in
       let is = ap (λ place. place.most) (place_at-waited 1 places p here ∙ waited-same 1 (place_at places p)) in
@@ -323,7 +323,7 @@ placed-waited net cells t placed put gates before sound in_time wait kept long n
       links = λ k d within.
           let there = has.links k d within in
           record { place = omega (arith, there.place, length-waited 1 placed.places); step = omega (arith, there.step) };
-      speeds = speeds-later net cells placed.speed_courses placed.speeds t placed.speeds_until has.speeds;
+      speeds = speeds-later net cells placed.speed_timelines placed.speeds t placed.speeds_until has.speeds;
       zones = has.zones;
       followed = followed-waited (most_out net cells can.connectors) placed.places placed.links t has.followed;
       pause = record {

@@ -7,7 +7,7 @@ use Rattle.signal_plan.proofs.Laws.{arriving-le, speed_at-none}
 use Rattle.network_file.specs.Cells.{is_exit_at}
 use Rattle.network_file.specs.Network.{IsNetwork, Network}
 use Rattle.flow_model.proofs.CellLimits.{speed_at-sound}
-use Rattle.courses.specs.Courses.{value_at}
+use Rattle.timelines.specs.Timelines.{value_at}
 use Rattle.region_body.specs.Places.{AreSound, place_at}
 use Rattle.region_body.specs.declared.place.Place.{Place}
 use Rattle.region_body.specs.Chains.{AreAround, is_joined, most_out}
@@ -19,7 +19,7 @@ use Rattle.region_body.specs.declared.followed_speed.FollowedSpeed.{FollowedSpee
 use Rattle.region_body.proofs.AtSpeeds.{at_speeds-at, length-at_speeds}
 use Rattle.region_body.proofs.Extending.{most-by}
 use Rattle.region_body.proofs.Flowing.{joined-sends}
-use Rattle.region_body.proofs.SpeedCourses.{listed-at, listed-same, no_speed}
+use Rattle.region_body.proofs.SpeedTimelines.{listed-at, listed-same, no_speed}
 
 -- the speeds in step t
 
@@ -29,9 +29,9 @@ first-false true false is free = cc
 first-false false b is free = cc
 
 -- a cell out of which a link leads sends at its speed
-speed-now : (net : Network) (cells : List ℕ) (courses : List FollowedSpeed) (speeds : List (ℕ × ℕ)) (t until p : ℕ) → AreSpeedsOf net cells courses speeds t until →
+speed-now : (net : Network) (cells : List ℕ) (timelines : List FollowedSpeed) (speeds : List (ℕ × ℕ)) (t until p : ℕ) → AreSpeedsOf net cells timelines speeds t until →
     t < until → p < length cells → is_exit_at net.cells (slice_index cells p) ≡ false → ratio_at speeds p ≡ cell_speed net cells p t
-speed-now net cells courses speeds t until p are before within sends = elim (cases_Bool (is_listed courses p)) [
+speed-now net cells timelines speeds t until p are before within sends = elim (cases_Bool (is_listed timelines p)) [
   | inl listed ↦ are.in_force p listed t (omega arith) before
   | inr other ↦
       let none : has_speeds net.plan (slice_index cells p) ≡ false = elim (cases_Bool (has_speeds net.plan (slice_index cells p))) [
@@ -45,11 +45,11 @@ speed-now net cells courses speeds t until p are before within sends = elim (cas
 ]
 
 -- a place whose cell isn't slow has its road's own speed
-pub speed-free : (net : Network) (cells : List ℕ) (courses : List FollowedSpeed) (speeds : List (ℕ × ℕ)) (t until p : ℕ) → AreSpeedsOf net cells courses speeds t until →
+pub speed-free : (net : Network) (cells : List ℕ) (timelines : List FollowedSpeed) (speeds : List (ℕ × ℕ)) (t until p : ℕ) → AreSpeedsOf net cells timelines speeds t until →
     is_slow net cells p ≡ false → ratio_at speeds p ≡ (1, 1)
-speed-free net cells courses speeds t until p are free = elim (cases_Bool (is_listed courses p)) [
+speed-free net cells timelines speeds t until p are free = elim (cases_Bool (is_listed timelines p)) [
   | inl listed ↦
-      let at = listed-at courses p listed in
+      let at = listed-at timelines p listed in
       absurd (cc (sym (ap (is_slow net cells) at.2) ∙ are.slow at.0 no_speed at.1, free))
   | inr other ↦ are.others p other
 ]
@@ -58,13 +58,13 @@ speed-free net cells courses speeds t until p are free = elim (cases_Bool (is_li
 abbrev pub sent_now : Network → (cells connectors : List ℕ) → (t p n : ℕ) → ℕ
 sent_now net cells connectors t p n = min (most_out net cells connectors p t) (arriving (speed_at net.plan (slice_index cells p) t) n)
 
-pub sends-now : (net : Network) (cells connectors : List ℕ) (courses : List FollowedSpeed) (speeds : List (ℕ × ℕ)) (t until p n : ℕ) → IsNetwork net →
-    AreAround net cells connectors → AreSpeedsOf net cells courses speeds t until → t < until → p < length cells →
+pub sends-now : (net : Network) (cells connectors : List ℕ) (timelines : List FollowedSpeed) (speeds : List (ℕ × ℕ)) (t until p n : ℕ) → IsNetwork net →
+    AreAround net cells connectors → AreSpeedsOf net cells timelines speeds t until → t < until → p < length cells →
     min (min (most_out net cells connectors p t) (arriving (ratio_at speeds p) n)) n ≡ sent_now net cells connectors t p n
-sends-now net cells connectors courses speeds t until p n sound around are before within = elim (cases_Bool (is_joined net cells connectors p)) [
+sends-now net cells connectors timelines speeds t until p n sound around are before within = elim (cases_Bool (is_joined net cells connectors p)) [
   | inl joined ↦
       let few = arriving-le (cell_speed net cells p t) n (speed_at-sound net (slice_index cells p) t sound) in
-      let is = speed-now net cells courses speeds t until p are before within (joined-sends net cells connectors p sound around joined) in
+      let is = speed-now net cells timelines speeds t until p are before within (joined-sends net cells connectors p sound around joined) in
       rw is (omega (arith, few))
   | inr apart ↦
       let none : most_out net cells connectors p t ≡ 0 = most-by net cells connectors p t false apart in
@@ -86,7 +86,7 @@ pub record AreKept (placed : PlacedCells) (places : List Place) : Type 0 where
 pub record Renewal : Type 0 where
   pub places : List Place
   pub links : List FollowedLink
-  pub courses : List FollowedSpeed
+  pub timelines : List FollowedSpeed
   pub speeds : List (ℕ × ℕ)
   pub until : ℕ
 
@@ -102,12 +102,12 @@ pub record IsRenewal (t : ℕ) (placed : PlacedCells) (new : Renewal) : Type 0 w
       place_at new.places p ≡ record (place_at placed.places p) { most = most p t }
   pub followed : (most : ℕ → ℕ → ℕ) → AreFollowed most placed.places placed.links t → AreFollowed most new.places new.links t
   pub speeds_long : length new.speeds ≡ length placed.speeds
-  pub speeds_there : All (IsSpeedThere (length placed.speeds) t) new.courses
-  pub as_before : AreSpeedsAsBefore placed.speed_courses new.courses
+  pub speeds_there : All (IsSpeedThere (length placed.speeds) t) new.timelines
+  pub as_before : AreSpeedsAsBefore placed.speed_timelines new.timelines
   pub later : t < new.until
-  pub in_force : (speed : ℕ → ℕ → ℕ × ℕ) → All (λ one. (s : ℕ) → value_at one.course s ≡ speed one.place s) placed.speed_courses →
-      AreSpeedsInForce speed placed.speed_courses placed.speeds t placed.speeds_until → AreSpeedsInForce speed placed.speed_courses new.speeds t new.until
-  pub others : (p : ℕ) → is_listed placed.speed_courses p ≡ false → ratio_at new.speeds p ≡ ratio_at placed.speeds p
+  pub in_force : (speed : ℕ → ℕ → ℕ × ℕ) → All (λ one. (s : ℕ) → value_at one.timeline s ≡ speed one.place s) placed.speed_timelines →
+      AreSpeedsInForce speed placed.speed_timelines placed.speeds t placed.speeds_until → AreSpeedsInForce speed placed.speed_timelines new.speeds t new.until
+  pub others : (p : ℕ) → is_listed placed.speed_timelines p ≡ false → ratio_at new.speeds p ≡ ratio_at placed.speeds p
 
 -- places, links and speeds in step t
 pub record IsFresh (net : Network) (cells connectors : List ℕ) (t : ℕ) (placed : PlacedCells) (new : Renewal) : Type 0 where
@@ -115,33 +115,33 @@ pub record IsFresh (net : Network) (cells connectors : List ℕ) (t : ℕ) (plac
   pub kept : AreKept placed new.places
   pub links_there : All (IsLinkThere (length new.places) t) new.links
   pub followed : AreFollowed (most_out net cells connectors) new.places new.links t
-  pub speeds : AreSpeedsOf net cells new.courses new.speeds t new.until
+  pub speeds : AreSpeedsOf net cells new.timelines new.speeds t new.until
   pub later : t < new.until
 
-speeds-renewed : (net : Network) (cells : List ℕ) (t : ℕ) (placed : PlacedCells) (new : Renewal) → AreSpeedsOf net cells placed.speed_courses placed.speeds t placed.speeds_until →
-    IsRenewal t placed new → AreSpeedsOf net cells new.courses new.speeds t new.until
+speeds-renewed : (net : Network) (cells : List ℕ) (t : ℕ) (placed : PlacedCells) (new : Renewal) → AreSpeedsOf net cells placed.speed_timelines placed.speeds t placed.speeds_until →
+    IsRenewal t placed new → AreSpeedsOf net cells new.timelines new.speeds t new.until
 speeds-renewed net cells t placed new has is =
-    let same = λ (p : ℕ). listed-same placed.speed_courses new.courses p is.as_before in
+    let same = λ (p : ℕ). listed-same placed.speed_timelines new.timelines p is.as_before in
     record {
       there = rw is.speeds_long is.speeds_there;
       known = λ p within. rw is.speeds_long (has.known p (rw is.speeds_long at within));
       values = λ k d within s.
-          let inside : k < length placed.speed_courses = omega (arith, within, is.as_before.long) in
+          let inside : k < length placed.speed_timelines = omega (arith, within, is.as_before.long) in
           let one = is.as_before.each k d inside in
           one.value s ∙ has.values k d inside s ∙ ap (λ p. cell_speed net cells p s) (sym one.place);
       slow = λ k d within.
-          let inside : k < length placed.speed_courses = omega (arith, within, is.as_before.long) in
+          let inside : k < length placed.speed_timelines = omega (arith, within, is.as_before.long) in
           ap (is_slow net cells) (is.as_before.each k d inside).place ∙ has.slow k d inside;
       whole = λ p within slow. same p ∙ has.whole p within slow;
       in_force = λ p listed. is.in_force (cell_speed net cells) has.values has.in_force p (sym (same p) ∙ listed);
       others = λ p other. is.others p (sym (same p) ∙ other) ∙ has.others p (sym (same p) ∙ other);
     }
 
-pub renewed-of : (net : Network) (cells connectors : List ℕ) (t until : ℕ) (placed : PlacedCells) (places : List Place) (courses : List FollowedSpeed) (speeds : List (ℕ × ℕ)) →
+pub renewed-of : (net : Network) (cells connectors : List ℕ) (t until : ℕ) (placed : PlacedCells) (places : List Place) (timelines : List FollowedSpeed) (speeds : List (ℕ × ℕ)) →
     IsNetwork net → AreAround net cells connectors → length placed.places ≡ length cells → length places ≡ length placed.places →
     ((p : ℕ) → p < length placed.places → place_at places p ≡ record (place_at placed.places p) { most = most_out net cells connectors p t }) →
-    AreSpeedsOf net cells courses speeds t until → t < until → AreRenewed net cells connectors t placed (at_speeds places speeds)
-renewed-of net cells connectors t until placed places courses speeds sound around one_each long most are before =
+    AreSpeedsOf net cells timelines speeds t until → t < until → AreRenewed net cells connectors t placed (at_speeds places speeds)
+renewed-of net cells connectors t until placed places timelines speeds sound around one_each long most are before =
     let at = λ (p : ℕ) (within : p < length placed.places). at_speeds-at places speeds p (omega (arith, within, long)) in
     record {
       long = length-at_speeds places speeds ∙ long;
@@ -152,7 +152,7 @@ renewed-of net cells connectors t until placed places courses speeds sound aroun
       sends = λ p within.
           let n : ℕ = (place_at placed.places p).n in
           ap (λ place. min place.most n) (at p within) ∙ ap (λ place. min (slowed_place place (ratio_at speeds p)).most n) (most p within)
-          ∙ sends-now net cells connectors courses speeds t until p n sound around are before (omega (arith, within, one_each));
+          ∙ sends-now net cells connectors timelines speeds t until p n sound around are before (omega (arith, within, one_each));
     }
 
 pub fresh-of : (net : Network) (cells halo connectors : List ℕ) (t : ℕ) (placed : PlacedCells) (new : Renewal) → IsNetwork net → ArePlaced net cells halo connectors t placed →
@@ -161,7 +161,7 @@ fresh-of net cells halo connectors t placed new sound has is =
     let most = is.most (most_out net cells connectors) has.followed in
     let speeds = speeds-renewed net cells t placed new has.speeds is in
     record {
-      renewed = renewed-of net cells connectors t new.until placed new.places new.courses new.speeds sound has.around has.one_each is.long most speeds is.later;
+      renewed = renewed-of net cells connectors t new.until placed new.places new.timelines new.speeds sound has.around has.one_each is.long most speeds is.later;
       kept = record {
         long = is.long;
         only_most = λ p within. most p within ∙ ap {B = Place} (λ m. record (place_at placed.places p) { most = m }) (sym (ap (λ place. place.most) (most p within)));
@@ -173,9 +173,9 @@ fresh-of net cells halo connectors t placed new sound has is =
     }
 
 -- speeds that were followed to step t are those of the next step
-pub speeds-later : (net : Network) (cells : List ℕ) (courses : List FollowedSpeed) (speeds : List (ℕ × ℕ)) (t until : ℕ) → AreSpeedsOf net cells courses speeds t until →
-    AreSpeedsOf net cells courses speeds (t + 1) until
-speeds-later net cells courses speeds t until are = record {
+pub speeds-later : (net : Network) (cells : List ℕ) (timelines : List FollowedSpeed) (speeds : List (ℕ × ℕ)) (t until : ℕ) → AreSpeedsOf net cells timelines speeds t until →
+    AreSpeedsOf net cells timelines speeds (t + 1) until
+speeds-later net cells timelines speeds t until are = record {
   there = λ k d within. record { place = (are.there k d within).place; step = omega (arith, (are.there k d within).step) };
   known = are.known;
   values = are.values;

@@ -236,7 +236,7 @@ can-sweep net t n cells halo connectors placed put new sound before has bounds s
     record {
       slow = is_slow net cells;
       laid = rw same has.zones;
-      free = λ p within free. speed-free net cells new.courses new.speeds t new.until p now.speeds free;
+      free = λ p within free. speed-free net cells new.timelines new.speeds t new.until p now.speeds free;
       known = λ p within. rw same (now.speeds.known p within);
       few = λ p within slow.
           let i : ℕ = slice_index cells p in
@@ -432,7 +432,7 @@ rows-after net cells halo connectors t n placed new outs carried ins after put s
 follows-later : (most : ℕ → ℕ → ℕ) (fresh after : List Place) (links : List FollowedLink) (t : ℕ) → length after ≡ length fresh →
     ((p : ℕ) → p < length fresh → (place_at after p).most ≡ (place_at fresh p).most) → AreFollowed most fresh links t → AreFollowed most after links (t + 1)
 follows-later most fresh after links t long same followed = record {
-  courses = followed.courses;
+  timelines = followed.timelines;
   each = λ p within.
       let here : p < length fresh = omega arith in
       let is = same p here in
@@ -452,14 +452,14 @@ follows-later most fresh after links t long same followed = record {
 pub placed-after : (net : Network) (cells halo connectors : List ℕ) (t : ℕ) (n : ℕ → ℕ) (placed : PlacedCells) (new : Renewal) (outs carried ins : ℕ → ℕ) (after : List Place) (before_list : List ℕ) (others : List FollowedConnector) (until : ℕ) (gates : List GatePlace) (pause : Pause) (seen_list : List (Option ℕ)) (put : List (Option ℕ)) →
     IsNetwork net → t < net.steps → ArePlaced net cells halo connectors t placed → ArePlacesInBounds net cells halo t placed put →
     IsSeen n cells halo placed.places put → AreSteps net cells halo connectors t n placed new outs carried ins after →
-    length before_list ≡ length placed.before → AreConnectorsFollowed t placed.connectors others → All (λ followed. until ≤ followed.course.until) others → AreAsked t placed.gates gates → IsPauseOf after before_list new.speeds new.until new.links others seen_list (t + 1) pause → length seen_list ≡ length halo →
+    length before_list ≡ length placed.before → AreConnectorsFollowed t placed.connectors others → All (λ followed. until ≤ followed.timeline.until) others → AreAsked t placed.gates gates → IsPauseOf after before_list new.speeds new.until new.links others seen_list (t + 1) pause → length seen_list ≡ length halo →
     ArePlaced net cells halo connectors (t + 1) (record {
       places = after;
       constants = placed.constants;
       before = before_list;
       speeds = new.speeds;
       zones = placed.zones;
-      speed_courses = new.courses;
+      speed_timelines = new.timelines;
       speeds_until = new.until;
       links = new.links;
       connectors = others;
@@ -495,7 +495,7 @@ placed-after net cells halo connectors t n placed new outs carried ins after bef
       links = λ k d within.
           let there = steps.now.links_there k d within in
           record { place = omega (arith, there.place, steps.long_after); step = omega (arith, there.step) };
-      speeds = speeds-later net cells new.courses new.speeds t new.until steps.now.speeds;
+      speeds = speeds-later net cells new.timelines new.speeds t new.until steps.now.speeds;
       zones = has.zones;
       followed = follows-later (most_out net cells connectors) new.places after new.links t steps.long_after
           (λ p there. ap (λ place. place.most) (steps.stepped_each p there)) steps.now.followed;

@@ -3,7 +3,7 @@ use Rattle.std.specs.Prelude.{◌≡◌, ℕ, ◌+◌, ◌^◌, ◌<◌, ◌≤�
 use Rattle.network_file.specs.Connectors.{connector_at}
 use Rattle.network_file.specs.Network.{Network}
 use Rattle.connector_flow.specs.Flows.{flow_at}
-use Rattle.connector_flow.specs.Following.{IsCourseOf}
+use Rattle.connector_flow.specs.Following.{IsTimelineOf}
 use Rattle.connector_flow.specs.declared.rule.Rule.{Rule}
 use Rattle.connector_flow.specs.declared.rule.Rule.TheVariants.{Linking, Merging, Diverging}
 use Rattle.flow_model.specs.declared.carried.Flow.{Flow}
@@ -17,7 +17,7 @@ use Rattle.region_body.specs.declared.followed_connector.FollowedConnector.{Foll
 pub record IsConnected (net : Network) (cells halo : List ℕ) (connector : FollowedConnector) : Type 0 where
   pub there : connector.number < length net.connectors
   pub refs : AreRefsOf cells halo (connector_at net.connectors connector.number) connector.cells
-  pub course : IsCourseOf net (connector_at net.connectors connector.number) connector.course
+  pub timeline : IsTimelineOf net (connector_at net.connectors connector.number) connector.timeline
 
 -- what its three cells hold
 abbrev pub three_held : FollowedConnector → (held : CellRef → ℕ) → List ℕ
@@ -25,22 +25,22 @@ three_held connector held = held (ref_at connector.cells 0) ∷ held (ref_at con
 
 -- what it carries in step t
 abbrev pub carried_of : (t : ℕ) → FollowedConnector → (held : CellRef → ℕ) → Flow
-carried_of t connector held = flow_at connector.course t (three_held connector held)
+carried_of t connector held = flow_at connector.timeline t (three_held connector held)
 
 -- it can carry it: its cells are there, and its limits are those of the step
 pub record CanCarry (t : ℕ) (connector : FollowedConnector) (places : List Place) (put : List (Option ℕ)) : Type 0 where
   pub refs : (m : ℕ) → m < 3 → IsWithin (length places) put (ref_at connector.cells m)
-  pub step : connector.course.step ≤ t
-  pub until : t < connector.course.until
+  pub step : connector.timeline.step ≤ t
+  pub until : t < connector.timeline.until
 
 -- a connector that was followed to step t carries as before, within the same limits in that step
 pub record IsConnectorFollowed (t : ℕ) (old new : FollowedConnector) : Type 0 where
   pub number : new.number ≡ old.number
   pub cells : new.cells ≡ old.cells
-  pub rule : new.course.rule ≡ old.course.rule
-  pub flow : (s : ℕ) (n : List ℕ) → flow_at new.course s n ≡ flow_at old.course s n
-  pub step : new.course.step ≤ t
-  pub later : t < new.course.until
+  pub rule : new.timeline.rule ≡ old.timeline.rule
+  pub flow : (s : ℕ) (n : List ℕ) → flow_at new.timeline s n ≡ flow_at old.timeline s n
+  pub step : new.timeline.step ≤ t
+  pub later : t < new.timeline.until
 
 -- so do all
 pub record AreConnectorsFollowed (t : ℕ) (old new : List FollowedConnector) : Type 0 where
@@ -60,10 +60,10 @@ brought_by Diverging connector flow p = parts_at (ref_at connector.cells 1) flow
 
 -- the same in step t
 unfoldable pub taken : (t : ℕ) → (held : CellRef → ℕ) → (p : ℕ) → FollowedConnector → ℕ
-taken t held p connector = taken_by connector.course.rule connector (carried_of t connector held) p
+taken t held p connector = taken_by connector.timeline.rule connector (carried_of t connector held) p
 
 unfoldable pub brought : (t : ℕ) → (held : CellRef → ℕ) → (p : ℕ) → FollowedConnector → ℕ
-brought t held p connector = brought_by connector.course.rule connector (carried_of t connector held) p
+brought t held p connector = brought_by connector.timeline.rule connector (carried_of t connector held) p
 
 -- a place from which so much was taken and to which so much was brought
 abbrev pub passed : Place → (enters leaves : ℕ) → Place

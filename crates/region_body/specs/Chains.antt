@@ -5,7 +5,7 @@ use Rattle.network_file.specs.Connectors.{connector_at, touches}
 use Rattle.network_file.specs.Network.{Network}
 use Rattle.network_file.specs.declared.connector.Connector.{Connector}
 use Rattle.network_file.specs.declared.connector.Connector.TheVariants.{Link, Merge, Diverge}
-use Rattle.courses.specs.Links.{most_between}
+use Rattle.timelines.specs.Links.{most_between}
 
 -- the connector is a link from the p-th of these cells to the next
 abbrev pub is_link : (cells : List ℕ) → (p : ℕ) → Connector → Bool

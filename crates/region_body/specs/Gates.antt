@@ -2,16 +2,16 @@
 use Rattle.std.specs.Prelude.{◌≡◌, ◌==◌, ℕ, ◌<◌, ◌≤◌, List, length, slice_index, slice_index_or, if◌then◌else◌}
 use Rattle.network_file.specs.Network.{Network}
 use Rattle.signal_plan.specs.Demand.{demand_at}
-use Rattle.courses.specs.Courses.{value_at}
+use Rattle.timelines.specs.Timelines.{value_at}
 use Rattle.region_body.specs.declared.gate.GatePlace.{GatePlace}
 
 -- what a gate brings to place p in step t
 abbrev pub demand_into : (t p : ℕ) → GatePlace → ℕ
-demand_into t p gate = if gate.place == p then value_at gate.course t else 0
+demand_into t p gate = if gate.place == p then value_at gate.timeline t else 0
 
 -- the gate once it is asked for step t
 abbrev pub asked : (t : ℕ) → GatePlace → GatePlace
-asked t gate = record gate { course = record gate.course { step = t } }
+asked t gate = record gate { timeline = record gate.timeline { step = t } }
 
 -- so are all
 pub record AreAsked (t : ℕ) (old new : List GatePlace) : Type 0 where
@@ -20,14 +20,14 @@ pub record AreAsked (t : ℕ) (old new : List GatePlace) : Type 0 where
 
 -- its demand is that of its cell, and it was asked for no step past t
 pub record IsGateOf (net : Network) (cells : List ℕ) (t : ℕ) (gate : GatePlace) : Type 0 where
-  pub demand : (s : ℕ) → value_at gate.course s ≡ demand_at net.plan (slice_index cells gate.place) s
-  pub step : gate.course.step ≤ t
+  pub demand : (s : ℕ) → value_at gate.timeline s ≡ demand_at net.plan (slice_index cells gate.place) s
+  pub step : gate.timeline.step ≤ t
 
 -- a gate whose place and demand are as they were, asked for no step past t
 pub record IsGateKept (t : ℕ) (old new : GatePlace) : Type 0 where
   pub place : new.place ≡ old.place
-  pub demand : (s : ℕ) → value_at new.course s ≡ value_at old.course s
-  pub step : new.course.step ≤ t
+  pub demand : (s : ℕ) → value_at new.timeline s ≡ value_at old.timeline s
+  pub step : new.timeline.step ≤ t
 
 -- so are all
 pub record AreGatesKept (t : ℕ) (old new : List GatePlace) : Type 0 where

@@ -4,7 +4,7 @@ use Rattle.std.specs.List.{Contains}
 use Rattle.network_file.specs.declared.connector.Connector.{Connector}
 use Rattle.region_cut.specs.ConnectorCells.{three_cells}
 use Rattle.signal_plan.specs.Records.{PlanRecords}
-use Rattle.courses.specs.Links.{most_between}
+use Rattle.timelines.specs.Links.{most_between}
 use Rattle.region_body.specs.declared.followed_link.FollowedLink.{FollowedLink}
 
 -- what links carry at most now, and after the p-th of these cells was joined to the next

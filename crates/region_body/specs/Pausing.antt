@@ -13,7 +13,7 @@ use Rattle.region_body.specs.declared.followed_connector.FollowedConnector.{Foll
 -- the connector carries nothing before this step, as long as its cells hold what they do
 abbrev pub IsIdleUntil : List Place → (put : List (Option ℕ)) → (until : ℕ) → FollowedConnector → Type 0
 IsIdleUntil places put until connector =
-    (s : ℕ) → connector.course.step ≤ s → s < until → flow_at connector.course s (three_held connector (held_in places put)) ≡ no_flow
+    (s : ℕ) → connector.timeline.step ≤ s → s < until → flow_at connector.timeline s (three_held connector (held_in places put)) ≡ no_flow
 
 -- before this step nothing moves by these links between neighbours nor by these connectors, as long as the halo holds this
 pub record AreIdle (places : List Place) (speeds : List (ℕ × ℕ)) (speeds_until : ℕ) (links : List FollowedLink) (connectors : List FollowedConnector) (put : List (Option ℕ)) (until : ℕ) : Type 0 where

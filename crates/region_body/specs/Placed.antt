@@ -12,7 +12,7 @@ use Rattle.region_body.specs.CellRefs.{put_at}
 use Rattle.region_body.specs.Places.{place_at}
 use Rattle.connector_flow.specs.Space.{IsSpaceOf}
 use Rattle.region_body.specs.declared.place.Place.{Place}
-use Rattle.courses.specs.Courses.{value_at}
+use Rattle.timelines.specs.Timelines.{value_at}
 use Rattle.region_body.specs.FollowedLinks.{AreFollowed, IsLinkThere}
 use Rattle.region_body.specs.declared.followed_link.FollowedLink.{FollowedLink}
 use Rattle.region_body.specs.Chains.{AreAround, most_out, odd_ones}
@@ -38,7 +38,7 @@ pub record PlacedCells : Type 0 where
   -- the speed at each place, where places lie whose cells have speed records, and how these change, none before a step
   pub speeds : List (ℕ × ℕ)
   pub zones : List SpeedZone
-  pub speed_courses : List FollowedSpeed
+  pub speed_timelines : List FollowedSpeed
   pub speeds_until : ℕ
   -- the links to neighbours whose most changes, and the other connectors, none of which changes before a step
   pub links : List FollowedLink
@@ -61,12 +61,12 @@ pub record ArePlaced (net : Network) (cells halo connectors : List ℕ) (t : ℕ
   pub before_each : length placed.before ≡ length cells
   pub own : (p : ℕ) → p < length cells → IsOf net (slice_index cells p) (constants_at placed.constants p) (place_at placed.places p)
   pub space : (p : ℕ) → p < length cells → IsSpaceOf (place_at placed.places p).space (room_at net.cells (slice_index cells p))
-  pub come : All (λ connector. connector.course.step ≤ t) placed.connectors
-  pub unchanged : All (λ connector. placed.connectors_until ≤ connector.course.until) placed.connectors
+  pub come : All (λ connector. connector.timeline.step ≤ t) placed.connectors
+  pub unchanged : All (λ connector. placed.connectors_until ≤ connector.timeline.until) placed.connectors
   pub gates : map (λ gate. gate.place) placed.gates ≡ filter (λ p. is_gate_at net.cells (slice_index cells p)) (range_with_len 0 (length cells))
   pub demands : All (IsGateOf net cells t) placed.gates
   pub links : All (IsLinkThere (length placed.places) t) placed.links
-  pub speeds : AreSpeedsOf net cells placed.speed_courses placed.speeds t placed.speeds_until
+  pub speeds : AreSpeedsOf net cells placed.speed_timelines placed.speeds t placed.speeds_until
   pub zones : AreZones (is_slow net cells) ((length cells - 1) / 4) placed.zones
   pub followed : AreFollowed (most_out net cells connectors) placed.places placed.links t
   pub pause : IsPauseOf placed.places placed.before placed.speeds placed.speeds_until placed.links placed.connectors placed.seen t placed.pause
@@ -91,7 +91,7 @@ pub record CanAdvance (net : Network) (cells : List ℕ) (t : ℕ) (placed : Pla
 pub record WaitThrough (t : ℕ) (placed : PlacedCells) (put : List (Option ℕ)) : Type 0 where
   pub paused : t < placed.pause.until
   pub same : placed.seen ≡ put
-  pub demand_nothing : All (λ gate. value_at gate.course t ≡ 0) placed.gates
+  pub demand_nothing : All (λ gate. value_at gate.timeline t ≡ 0) placed.gates
 
 -- cells, their halo and the connectors that touch them, as a region has them
 pub record AreCells (net : Network) (cells halo connectors : List ℕ) : Type 0 where

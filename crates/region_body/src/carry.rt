@@ -41,7 +41,7 @@ fn carry(
     requires can { CanConnectorPass t before.now put.now connector.now places.old }
     ensures { HasConnectorPassed t before.now put.now connector.now places.old places.new }
 {
-    match connector.course.rule() {
+    match connector.timeline.rule() {
         Rule::Linking => link(t, connector, before, put, places),
         Rule::Merging => merge(t, connector, before, put, places),
         Rule::Diverging => diverge(t, connector, before, put, places),
@@ -57,7 +57,7 @@ fn link(
     put: &[Option<u64>],
     places: &mut [Place],
 )
-    requires rule { connector.now.course.rule ≡ Linking }
+    requires rule { connector.now.timeline.rule ≡ Linking }
     requires connector { CanCarry t connector.now places.old put.now }
     requires one_each { length before.now ≡ length places.old }
     requires can { CanConnectorPass t before.now put.now connector.now places.old }
@@ -65,7 +65,7 @@ fn link(
 {
     let [a, b, _] = connector.cells;
     let n = [a.held_before(before, put), b.held_before(before, put), 0];
-    let flow = connector.course.flow(n);
+    let flow = connector.timeline.flow(n);
     take(places, a, flow.out1);
     bring(places, b, flow.in1);
 }
@@ -79,7 +79,7 @@ fn merge(
     put: &[Option<u64>],
     places: &mut [Place],
 )
-    requires rule { connector.now.course.rule ≡ Merging }
+    requires rule { connector.now.timeline.rule ≡ Merging }
     requires connector { CanCarry t connector.now places.old put.now }
     requires one_each { length before.now ≡ length places.old }
     requires can { CanConnectorPass t before.now put.now connector.now places.old }
@@ -91,7 +91,7 @@ fn merge(
         b.held_before(before, put),
         c.held_before(before, put),
     ];
-    let flow = connector.course.flow(n);
+    let flow = connector.timeline.flow(n);
     take(places, a, flow.out1);
     take(places, b, flow.out2);
     bring(places, c, flow.in1);
@@ -106,7 +106,7 @@ fn diverge(
     put: &[Option<u64>],
     places: &mut [Place],
 )
-    requires rule { connector.now.course.rule ≡ Diverging }
+    requires rule { connector.now.timeline.rule ≡ Diverging }
     requires connector { CanCarry t connector.now places.old put.now }
     requires one_each { length before.now ≡ length places.old }
     requires can { CanConnectorPass t before.now put.now connector.now places.old }
@@ -118,7 +118,7 @@ fn diverge(
         b.held_before(before, put),
         c.held_before(before, put),
     ];
-    let flow = connector.course.flow(n);
+    let flow = connector.timeline.flow(n);
     take(places, a, flow.out1);
     bring(places, b, flow.in1);
     bring(places, c, flow.in2);

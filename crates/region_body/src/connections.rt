@@ -50,7 +50,7 @@ pub(crate) fn join_places(
     ensures followed { IfOk result (λ connections. AreFollowed (most_out net.now region.now.order.now.placed region.now.connectors.now) places.new connections.links.items t) }
     ensures numbers { IfOk result (λ connections. map (λ connector. connector.number) connections.connectors.items ≡ odd_ones net.now region.now.order.now.placed region.now.connectors.now) }
     ensures connected { IfOk result (λ connections. All (IsConnected net.now region.now.order.now.placed region.now.halo.now) connections.connectors.items) }
-    ensures come { IfOk result (λ connections. All (λ connector. connector.course.step ≤ t) connections.connectors.items) }
+    ensures come { IfOk result (λ connections. All (λ connector. connector.timeline.step ≤ t) connections.connectors.items) }
 {
     let _steps = net.steps;
     let mut links = Vec::new(alloc);

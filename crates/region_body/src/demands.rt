@@ -1,6 +1,6 @@
 ghost use Rattle.std.specs.Prelude.{◌≡◌, ◌+◌, ◌<◌, ◌≤◌, ◌^◌, ℕ, All, IsTrue, length, sum_by};
 ghost use Rattle.region_body.specs.Places.{place_at, with_entered};
-ghost use Rattle.courses.specs.Courses.{value_at};
+ghost use Rattle.timelines.specs.Timelines.{value_at};
 ghost use Rattle.region_body.specs.Gates.{AreAsked, AreGatesKept, asked, demand_into};
 
 use crate::gate::GatePlace;
@@ -10,7 +10,7 @@ use signal_plan::MOST_STEPS;
 /// What these gates demand in step `t` enters their places.
 pub(crate) fn bring_demands(t: u64, gates: &mut [GatePlace], places: &mut [Place])
     requires in_time { t ≤ MOST_STEPS }
-    requires step { All (λ gate. gate.course.step ≤ t) gates.old }
+    requires step { All (λ gate. gate.timeline.step ≤ t) gates.old }
     requires there { All (λ gate. gate.place < length places.old) gates.old }
     requires fits { (p : ℕ) → p < length places.old → (place_at places.old p).n + sum_by (demand_into t p) gates.old < 2 ^ 64 }
     ensures gates { AreAsked t gates.old gates.new }
@@ -25,9 +25,9 @@ pub(crate) fn bring_demands(t: u64, gates: &mut [GatePlace], places: &mut [Place
 // What one of them demands.
 fn bring_demand(t: u64, gate: &mut GatePlace, places: &mut [Place])
     requires in_time { t ≤ MOST_STEPS }
-    requires step { gate.old.course.step ≤ t }
+    requires step { gate.old.timeline.step ≤ t }
     requires there { gate.old.place < length places.old }
-    requires fits { (place_at places.old gate.old.place).n + value_at gate.old.course t < 2 ^ 64 }
+    requires fits { (place_at places.old gate.old.place).n + value_at gate.old.timeline t < 2 ^ 64 }
     ensures gate { gate.new ≡ asked t gate.old }
     ensures places { (p : ℕ) → p < length places.old →
         place_at places.new p ≡ with_entered (place_at places.old p) (demand_into t p gate.old) }
@@ -39,9 +39,9 @@ fn bring_demand(t: u64, gate: &mut GatePlace, places: &mut [Place])
 /// Whether these gates demand nothing in step `t`.
 pub(crate) fn nothing_demanded(t: u64, gates: &mut [GatePlace]) -> bool
     requires in_time { t ≤ MOST_STEPS }
-    requires step { All (λ gate. gate.course.step ≤ t) gates.old }
+    requires step { All (λ gate. gate.timeline.step ≤ t) gates.old }
     ensures gates { AreGatesKept t gates.old gates.new }
-    ensures nothing { IsTrue result → All (λ gate. value_at gate.course t ≡ 0) gates.old }
+    ensures nothing { IsTrue result → All (λ gate. value_at gate.timeline t ≡ 0) gates.old }
 {
     for m in 0..gates.len() {
         if demanded(t, &mut gates[m]) != 0 {
@@ -54,10 +54,10 @@ pub(crate) fn nothing_demanded(t: u64, gates: &mut [GatePlace]) -> bool
 // What a gate demands in step `t`.
 fn demanded(t: u64, gate: &mut GatePlace) -> u64
     requires in_time { t ≤ MOST_STEPS }
-    requires step { gate.old.course.step ≤ t }
+    requires step { gate.old.timeline.step ≤ t }
     ensures gate { gate.new ≡ asked t gate.old }
-    ensures amount { result ≡ value_at gate.old.course t }
+    ensures amount { result ≡ value_at gate.old.timeline t }
 {
-    gate.course.move_to(t);
-    gate.course.now().value
+    gate.timeline.move_to(t);
+    gate.timeline.now().value
 }

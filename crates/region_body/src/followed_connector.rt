@@ -7,7 +7,7 @@ ghost use Rattle.region_body.specs.Joining.{AreKnown};
 
 use crate::cell_ref::{CellRef, refs_of};
 use crate::cells::Cells;
-use connector_flow::ConnectorCourse;
+use connector_flow::ConnectorTimeline;
 use network_file::Net;
 use no_memory::NoMemory;
 use signal_plan::MOST_STEPS;
@@ -21,7 +21,7 @@ pub(crate) struct FollowedConnector {
     /// Its cells, in the order of its fields; that of a link downstream stands twice.
     pub(crate) cells: [CellRef; 3],
     /// What it carries, followed forward.
-    pub(crate) course: ConnectorCourse,
+    pub(crate) timeline: ConnectorTimeline,
 }
 
 /// Connector `k`, followed to step 0.
@@ -40,22 +40,22 @@ pub(crate) fn connector_of(
     requires few_halo { length region.now.halo.now < 2 ^ 32 }
     ensures number { IfOk result (λ connector. connector.number ≡ k) }
     ensures connected { IfOk result (IsConnected net.now region.now.order.now.placed region.now.halo.now) }
-    ensures step { IfOk result (λ connector. connector.course.step ≡ 0) }
+    ensures step { IfOk result (λ connector. connector.timeline.step ≡ 0) }
 {
     Ok(FollowedConnector {
         number: k,
         cells: refs_of(net, k, region),
-        course: ConnectorCourse::new(alloc, net, k)?,
+        timeline: ConnectorTimeline::new(alloc, net, k)?,
     })
 }
 
 /// Follows these connectors to step `t`, where one of them may change by then, and tells up to which step none does.
 pub(crate) fn follow_connectors(t: u64, connectors: &mut [FollowedConnector], until: u64) -> u64
     requires in_time { t ≤ MOST_STEPS }
-    requires step { All (λ connector. connector.course.step ≤ t) connectors.old }
-    requires until { All (λ connector. until ≤ connector.course.until) connectors.old }
+    requires step { All (λ connector. connector.timeline.step ≤ t) connectors.old }
+    requires until { All (λ connector. until ≤ connector.timeline.until) connectors.old }
     ensures connectors { AreConnectorsFollowed t connectors.old connectors.new }
-    ensures until { All (λ connector. result ≤ connector.course.until) connectors.new }
+    ensures until { All (λ connector. result ≤ connector.timeline.until) connectors.new }
 {
     if t < until {
         return until;
@@ -66,9 +66,9 @@ pub(crate) fn follow_connectors(t: u64, connectors: &mut [FollowedConnector], un
 // Follows all of them.
 fn follow_all_connectors(t: u64, connectors: &mut [FollowedConnector]) -> u64
     requires in_time { t ≤ MOST_STEPS }
-    requires step { All (λ connector. connector.course.step ≤ t) connectors.old }
+    requires step { All (λ connector. connector.timeline.step ≤ t) connectors.old }
     ensures connectors { AreConnectorsFollowed t connectors.old connectors.new }
-    ensures until { All (λ connector. result ≤ connector.course.until) connectors.new }
+    ensures until { All (λ connector. result ≤ connector.timeline.until) connectors.new }
 {
     let mut until = u64::MAX;
     for m in 0..connectors.len() {
@@ -80,10 +80,10 @@ fn follow_all_connectors(t: u64, connectors: &mut [FollowedConnector]) -> u64
 // Follows one of them, and tells when it may change.
 fn follow_connector(t: u64, connector: &mut FollowedConnector) -> u64
     requires in_time { t ≤ MOST_STEPS }
-    requires step { connector.old.course.step ≤ t }
+    requires step { connector.old.timeline.step ≤ t }
     ensures connector { IsConnectorFollowed t connector.old connector.new }
-    ensures until { result ≡ connector.new.course.until }
+    ensures until { result ≡ connector.new.timeline.until }
 {
-    connector.course.refresh(t);
-    connector.course.until()
+    connector.timeline.refresh(t);
+    connector.timeline.until()
 }

@@ -1,11 +1,11 @@
 ghost use Rattle.std.specs.Prelude.{◌≡◌, ◌≤◌, ◌<◌, ◌⊎◌, ℕ, All, length};
 ghost use Rattle.region_body.specs.Places.{place_at};
-ghost use Rattle.courses.specs.Links.{most_at};
+ghost use Rattle.timelines.specs.Links.{most_at};
 ghost use Rattle.region_body.specs.FollowedLinks.{AreFollowed, IsChanged, IsLinkThere, IsUnchanged};
 
 use crate::place::Place;
-use courses::LinkCourse;
 use signal_plan::MOST_STEPS;
+use timelines::LinkTimeline;
 
 /// A link between neighbouring places, and when the most that it carries changes next.
 #[derive(Drop)]
@@ -14,8 +14,8 @@ pub(crate) struct FollowedLink {
     pub(crate) place: u32,
     /// The most that it carries doesn't change before this step.
     pub(crate) until: u64,
-    /// The course of the most that it carries.
-    pub(crate) course: LinkCourse,
+    /// The timeline of the most that it carries.
+    pub(crate) timeline: LinkTimeline,
 }
 
 /// Writes the changes that are due at step `t`: each place then has the most that its link carries in that step.
@@ -37,16 +37,16 @@ pub(crate) fn refresh(links: &mut [FollowedLink], places: &mut [Place], t: u64)
 
 // Where the link changes by step `t`, its place gets the most of that step.
 fn refresh_link(link: &mut FollowedLink, place: &mut Place, t: u64)
-    requires step { link.old.course.step ≤ t }
+    requires step { link.old.timeline.step ≤ t }
     requires in_time { t ≤ MOST_STEPS }
     ensures its { link.new.place ≡ link.old.place }
-    ensures step { link.new.course.step ≤ t }
-    ensures course { (s : ℕ) → most_at link.new.course s ≡ most_at link.old.course s }
+    ensures step { link.new.timeline.step ≤ t }
+    ensures timeline { (s : ℕ) → most_at link.new.timeline s ≡ most_at link.old.timeline s }
     ensures only_most { place.new ≡ record place.old { most = place.new.most } }
     ensures most { IsUnchanged link.old link.new place.old place.new t ⊎ IsChanged link.old link.new place.new t }
 {
     if link.until <= t {
-        let now = link.course.move_to(t);
+        let now = link.timeline.move_to(t);
         link.until = now.until;
         place.most = now.value;
     }

@@ -1,9 +1,9 @@
-use courses::Timeline;
+use timelines::Timeline;
 
 /// A gate among the places.
 #[derive(Drop)]
 pub(crate) struct GatePlace {
     pub(crate) place: u32,
     /// What it demands, followed forward.
-    pub(crate) course: Timeline<u64>,
+    pub(crate) timeline: Timeline<u64>,
 }

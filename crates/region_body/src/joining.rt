@@ -5,10 +5,10 @@ ghost use Rattle.region_body.specs.Joining.{Extends, IsAt};
 
 use crate::followed_link::FollowedLink;
 use crate::place::Place;
-use courses::LinkCourse;
 use network_file::Net;
 use no_memory::NoMemory;
 use std::alloc::Global;
+use timelines::LinkTimeline;
 
 /// Joins the `p`-th place to the next by the link between their cells, from step `t` on. Where the most of the link
 /// changes it is followed. Where memory is refused the place may be joined already.
@@ -34,16 +34,16 @@ pub(crate) fn join_next(
 {
     let _steps = net.steps;
     let (up, down) = (cells[p as usize], cells[p as usize + 1]);
-    let mut course = LinkCourse::new(alloc, &net.plan, up, down)?;
-    let now = course.move_to(t);
+    let mut timeline = LinkTimeline::new(alloc, &net.plan, up, down)?;
+    let now = timeline.move_to(t);
     places[p as usize].most = now.value;
-    if course.is_constant() {
+    if timeline.is_constant() {
         return Ok(());
     }
     links.push(FollowedLink {
         place: p,
         until: now.until,
-        course,
+        timeline,
     })?;
     Ok(())
 }

@@ -12,11 +12,11 @@ use crate::cell_constants::CellConstants;
 use crate::first::{cell_constants_of, place_of};
 use crate::gate::GatePlace;
 use crate::place::Place;
-use courses::demand_of;
 use flow_model::Row;
 use network_file::{Kind, Net};
 use no_memory::NoMemory;
 use std::alloc::Global;
+use timelines::demand_of;
 
 /// What never changes of these cells.
 pub(crate) fn constants_of(
@@ -95,7 +95,7 @@ pub(crate) fn gates_of(alloc: Global, net: &Net, cells: &[u32]) -> Result<Vec<Ga
         if is_gate(net, cells[p]) {
             gates.push(GatePlace {
                 place: p as u32,
-                course: demand_of(alloc, &net.plan, cells[p])?,
+                timeline: demand_of(alloc, &net.plan, cells[p])?,
             })?;
         }
     }

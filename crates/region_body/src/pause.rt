@@ -86,7 +86,11 @@ fn connectors_until(connectors: &[FollowedConnector], places: &[Place], put: &[O
 {
     let mut until = u64::MAX;
     for connector in connectors {
-        until = until.min(connector.course.idle_until(held_by(connector, places, put)));
+        until = until.min(
+            connector
+                .timeline
+                .idle_until(held_by(connector, places, put)),
+        );
         if until == 0 {
             return 0;
         }

@@ -46,7 +46,7 @@ pub struct PlacedRows {
     // change, none before a step.
     speeds: Vec<SpeedFactor>,
     zones: Vec<SpeedZone>,
-    speed_courses: Vec<FollowedSpeed>,
+    speed_timelines: Vec<FollowedSpeed>,
     speeds_until: u64,
     links: Vec<FollowedLink>,
     connectors: Vec<FollowedConnector>,
@@ -72,7 +72,7 @@ impl Model for PlacedRows {
       before = rows.before.items;
       speeds = rows.speeds.items;
       zones = rows.zones.items;
-      speed_courses = rows.speed_courses.items;
+      speed_timelines = rows.speed_timelines.items;
       speeds_until = rows.speeds_until;
       links = rows.links.items;
       connectors = rows.connectors.items;
@@ -85,7 +85,7 @@ impl Model for PlacedRows {
     ghost invariant = { λ rows. AreSettled rows.constants.items (map (waited rows.pause.owed) rows.places.items) rows.before.items };
 }
 
-// Places and courses are not shown.
+// Places and timelines are not shown.
 impl fmt::Debug for PlacedRows {
     fn fmt<W: fmt::Write>(&self, f: &mut fmt::Formatter<W>) -> fmt::Result {
         f.debug_struct("PlacedRows").finish_non_exhaustive()
@@ -130,7 +130,7 @@ impl PlacedRows {
             before,
             speeds: speeds.now,
             zones: speeds.zones,
-            speed_courses: speeds.courses,
+            speed_timelines: speeds.timelines,
             speeds_until: 0,
             links: connections.links,
             connectors: connections.connectors,
@@ -205,7 +205,7 @@ impl PlacedRows {
     // Whether nothing moves among the cells in step `t`, as far as it is known.
     fn waits_through(&mut self, t: u64, put: &[Option<u64>]) -> bool
         requires in_time { t ≤ MOST_STEPS }
-        requires step { All (λ gate. gate.course.step ≤ t) self.old.gates }
+        requires step { All (λ gate. gate.timeline.step ≤ t) self.old.gates }
         requires seen { length self.old.seen ≡ length put.now }
         ensures only_gates { self.new ≡ record self.old { gates = self.new.gates } }
         ensures gates { AreGatesKept t self.old.gates self.new.gates }
@@ -282,7 +282,7 @@ impl PlacedRows {
         refresh(&mut self.links, &mut self.places, t);
         self.speeds_until = follow_speeds(
             t,
-            &mut self.speed_courses,
+            &mut self.speed_timelines,
             &mut self.speeds,
             self.speeds_until,
         );

@@ -6,10 +6,10 @@ use crate::followed_speed::FollowedSpeed;
 use crate::slow_cell::is_slow;
 use crate::speed_factor::SpeedFactor;
 use crate::speed_zone::{SpeedZone, zones_of};
-use courses::speed_of;
 use network_file::Net;
 use no_memory::NoMemory;
 use std::alloc::Global;
+use timelines::speed_of;
 
 /// The speeds of a region's places.
 #[derive(Drop)]
@@ -19,42 +19,42 @@ pub(crate) struct Speeds {
     /// Where places lie whose cells have some, in the whole fours before the last place.
     pub(crate) zones: Vec<SpeedZone>,
     /// The speeds in these cells as they change.
-    pub(crate) courses: Vec<FollowedSpeed>,
+    pub(crate) timelines: Vec<FollowedSpeed>,
 }
 
 /// The speeds of these cells, as they are placed, followed to step 0 and none written yet.
 pub(crate) fn speeds_of(alloc: Global, net: &Net, cells: &[u32]) -> Result<Speeds, NoMemory>
     requires there { All (λ i. i < length net.now.cells) cells.now }
     requires few { length cells.now < 2 ^ 32 }
-    ensures speeds { IfOk result (λ speeds. (t : ℕ) → AreSpeedsOf net.now cells.now speeds.courses.items speeds.now.items t 0) }
+    ensures speeds { IfOk result (λ speeds. (t : ℕ) → AreSpeedsOf net.now cells.now speeds.timelines.items speeds.now.items t 0) }
     ensures zones { IfOk result (λ speeds. AreZones (is_slow net.now cells.now) ((length cells.now - 1) / 4) speeds.zones.items) }
 {
     let _steps = net.steps;
-    let courses = courses_of(alloc, net, cells)?;
-    let count = if courses.is_empty() { 0 } else { cells.len() };
+    let timelines = timelines_of(alloc, net, cells)?;
+    let count = if timelines.is_empty() { 0 } else { cells.len() };
     Ok(Speeds {
         now: vec![in alloc; SpeedFactor::new((1, 1)); count]?,
         zones: zones_of(alloc, net, cells)?,
-        courses,
+        timelines,
     })
 }
 
 // The speeds in those of these cells that have speed records, at step 0.
-fn courses_of(alloc: Global, net: &Net, cells: &[u32]) -> Result<Vec<FollowedSpeed>, NoMemory>
+fn timelines_of(alloc: Global, net: &Net, cells: &[u32]) -> Result<Vec<FollowedSpeed>, NoMemory>
     requires there { All (λ i. i < length net.now.cells) cells.now }
     requires few { length cells.now < 2 ^ 32 }
-    ensures opened { IfOk result (λ courses. All (IsSpeedOpened net.now cells.now) courses.items) }
-    ensures whole { IfOk result (λ courses. (p : ℕ) → p < length cells.now → is_slow net.now cells.now p ≡ true → is_listed courses.items p ≡ true) }
+    ensures opened { IfOk result (λ timelines. All (IsSpeedOpened net.now cells.now) timelines.items) }
+    ensures whole { IfOk result (λ timelines. (p : ℕ) → p < length cells.now → is_slow net.now cells.now p ≡ true → is_listed timelines.items p ≡ true) }
 {
     let _steps = net.steps;
-    let mut courses = Vec::new(alloc);
+    let mut timelines = Vec::new(alloc);
     for p in 0..cells.len() {
         if is_slow(net, cells, p) {
-            courses.push(FollowedSpeed {
+            timelines.push(FollowedSpeed {
                 place: p as u32,
-                course: speed_of(alloc, &net.plan, cells[p])?,
+                timeline: speed_of(alloc, &net.plan, cells[p])?,
             })?;
         }
     }
-    Ok(courses)
+    Ok(timelines)
 }

@@ -2,7 +2,7 @@ use Rattle.std.specs.Prelude.{◌&&◌}
 use Rattle.std.proofs.Common.{◌≡◌, Bool, true, false, sym, ap, subst, ◌∙◌, slice_index}
 use Rattle.signal_plan.specs.Speeds.{has_speeds}
 use Rattle.network_file.specs.Network.{IsNetwork, Network}
-use Rattle.courses.specs.Courses.{value_at}
+use Rattle.timelines.specs.Timelines.{value_at}
 use Rattle.connector_flow.specs.Limits.{sends_second}
 use Rattle.connector_flow.specs.Slowing.{AreSpeedsIn, IsSlowing, SlowingValues}
 use Rattle.connector_flow.proofs.Slowed.{no-slowing, some-slowing, speeds-sound}
@@ -40,7 +40,7 @@ returns c =
     let second : AreSpeedsIn net (sends_second c.args.rule) (slice_index c.args.cells 1) c.in_ok-second.second =
     subst (λ sends. AreSpeedsIn net sends (slice_index c.args.cells 1) c.in_ok-second.second) c.sends_second-sends.ensures c.in_ok-second.ensures.speeds in
     some-slowing net c.args.rule c.args.cells value
-    (λ t. ap (λ (one : SlowingValues). value_at one.first t) is ∙ ap (λ course. value_at course t) c.of.ensures.first ∙ c.in_ok-first.ensures.speeds t)
-    (λ t. ap (λ (one : SlowingValues). value_at one.second t) is ∙ ap (λ course. value_at course t) c.of.ensures.second ∙ second t)
-    (ap (λ (one : SlowingValues). one.first.step) is ∙ ap (λ course. course.step) c.of.ensures.first ∙ c.in_ok-first.ensures.step)
+    (λ t. ap (λ (one : SlowingValues). value_at one.first t) is ∙ ap (λ timeline. value_at timeline t) c.of.ensures.first ∙ c.in_ok-first.ensures.speeds t)
+    (λ t. ap (λ (one : SlowingValues). value_at one.second t) is ∙ ap (λ timeline. value_at timeline t) c.of.ensures.second ∙ second t)
+    (ap (λ (one : SlowingValues). one.first.step) is ∙ ap (λ timeline. timeline.step) c.of.ensures.first ∙ c.in_ok-first.ensures.step)
     (subst IsSlowing (sym is) c.of.ensures.lasts)

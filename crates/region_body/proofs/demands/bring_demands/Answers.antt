@@ -2,7 +2,7 @@ use Rattle.std.proofs.Common.{◌≡◌, ◌<◌, ◌+◌, ◌^◌, ℕ, get_or,
 use Rattle.std.proofs.lemmas.List.{get_or_default, length-set}
 use Rattle.region_body.proofs.Sets.{done_more, rest_more}
 use Rattle.region_body.specs.Places.{place_at, with_entered}
-use Rattle.courses.specs.Courses.{value_at}
+use Rattle.timelines.specs.Timelines.{value_at}
 use Rattle.region_body.specs.Gates.{asked, demand_into}
 use Rattle.region_body.specs.declared.gate.GatePlace.{GatePlace}
 use Rattle.region_body.proofs.MovedPlaces.{at-one, entered-more, entered-none, entered-room}
@@ -47,7 +47,7 @@ bring_demand-requires-clause-fits c =
     let fits : (place_at c.loop-m.places q).n + demand_into t q gate < 2 ^ 64 =
     rw same at (entered-room (demand_into t q) first j d0 (place_at c.args.places.now q) (place_at c.loop-m.places q) (omega (arith, has.long))
     (has.places q (omega (arith, there, place))) (c.requires.fits q (omega (arith, there, place)))) in
-    omega (arith, fits, at-one q (value_at gate.course t))
+    omega (arith, fits, at-one q (value_at gate.timeline t))
 
 pub loop-m-preserved : goal.loop-m-preserved
 loop-m-preserved c =

@@ -2,7 +2,7 @@ use Rattle.std.specs.Prelude.{All}
 use Rattle.std.proofs.Common.{◌≡◌, ℕ, ◌<◌, List, length, get_or, set, sym, ◌∙◌, subst, arith}
 use Rattle.std.proofs.lemmas.List.{get_or_default, take_all}
 use Rattle.std.proofs.lemmas.List.Elements.{All-more}
-use Rattle.courses.specs.Courses.{value_at}
+use Rattle.timelines.specs.Timelines.{value_at}
 use Rattle.region_body.specs.Gates.{AreGatesKept, asked}
 use Rattle.region_body.specs.declared.gate.GatePlace.{GatePlace}
 use Rattle.region_body.proofs.Gates.{kept-none, kept-set}
@@ -30,7 +30,7 @@ loop-m-preserved c =
     let one = c.loop-m.invariant.kept.each m d0 c.loop-m-test.true in
     record {
       kept = kept-asked c.args.t c.args.gates.now c.loop-m.gates m c.demanded.new.gate d0 c.loop-m.invariant.kept c.loop-m-test.true c.demanded.ensures.gate;
-      nothing = All-more (λ gate. value_at gate.course c.args.t ≡ 0) c.args.gates.now m d0 c.loop-m-test.true c.loop-m.invariant.nothing
+      nothing = All-more (λ gate. value_at gate.timeline c.args.t ≡ 0) c.args.gates.now m d0 c.loop-m-test.true c.loop-m.invariant.nothing
           (sym (one.demand c.args.t) ∙ sym c.demanded.ensures.amount ∙ c.if-demanded-ne0.false);
     }
 
@@ -43,5 +43,5 @@ returns-then-demanded-ne0 c = record {
 pub returns : goal.returns
 returns c = record {
   gates = c.loop-m.invariant.kept;
-  nothing = λ yes. subst (All (λ gate. value_at gate.course c.args.t ≡ 0)) (take_all c.loop-m.m c.args.gates.now (omega (arith, c.loop-m-test.false))) c.loop-m.invariant.nothing;
+  nothing = λ yes. subst (All (λ gate. value_at gate.timeline c.args.t ≡ 0)) (take_all c.loop-m.m c.args.gates.now (omega (arith, c.loop-m-test.false))) c.loop-m.invariant.nothing;
 }

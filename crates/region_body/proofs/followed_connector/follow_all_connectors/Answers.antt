@@ -13,8 +13,8 @@ loop-m-init c = record {
 }
 
 -- one more of them
-unchanged-more : (connectors : List FollowedConnector) (m until least : ℕ) (new : FollowedConnector) → m < length connectors → least ≤ until → least ≤ new.course.until →
-    ((k : ℕ) (d : FollowedConnector) → k < m → until ≤ (get_or connectors k d).course.until) → (k : ℕ) (d : FollowedConnector) → k < m + 1 → least ≤ (get_or (set connectors m new) k d).course.until
+unchanged-more : (connectors : List FollowedConnector) (m until least : ℕ) (new : FollowedConnector) → m < length connectors → least ≤ until → least ≤ new.timeline.until →
+    ((k : ℕ) (d : FollowedConnector) → k < m → until ≤ (get_or connectors k d).timeline.until) → (k : ℕ) (d : FollowedConnector) → k < m + 1 → least ≤ (get_or (set connectors m new) k d).timeline.until
 unchanged-more connectors m until least new within few few_new each k d before = elim (cases_eq k m) [
   | inl same ↦ rw (same, get_or-set_same connectors m new d within) few_new
   | inr other ↦ rw (get_or-set_other connectors m k new d other) (omega (arith, few, each k d (omega (arith, before, other))))

@@ -6,5 +6,5 @@ use Rattle.region_body.proofs.followed_connector.follow_all_connectors.Given as 
 abbrev pub invariant-loop-m : goal.invariant-loop-m
 invariant-loop-m l = record {
   begun : AreBegun l.t l.m l.initial.connectors l.connectors;
-  unchanged : (k : ℕ) (d : FollowedConnector) → k < l.m → l.until ≤ (get_or l.connectors k d).course.until;
+  unchanged : (k : ℕ) (d : FollowedConnector) → k < l.m → l.until ≤ (get_or l.connectors k d).timeline.until;
 }

@@ -36,7 +36,7 @@ loop-m-preserved c =
             read = λ d. get_or_default links j d c.index-links-m-in-loop-m.result within;
             there = there.place;
             its = c.refresh_link.ensures.its;
-            course = c.refresh_link.ensures.course;
+            timeline = c.refresh_link.ensures.timeline;
             only_most = subst (λ q. after ≡ record (place_at places q) { most = after.most }) same c.refresh_link.ensures.only_most;
             due = subst (λ q. IsUnchanged old new (place_at places q) after c.args.t ⊎ IsChanged old new after c.args.t) same c.refresh_link.ensures.most;
           }) (c.loop-m.invariant.refreshed most followed);

@@ -22,7 +22,7 @@ loop-p-preserved c =
     elim c.if-is_gate.branch [
       | then-is_gate+in_ok-demand_of+in_ok-push w ↦
           let is : is_gate p ≡ true = sym c.is_gate.ensures ∙ w.if-is_gate.true in
-          let gate : GatePlace = record { place = p; course = w.in_ok-demand_of.field-0 } in
+          let gate : GatePlace = record { place = p; timeline = w.in_ok-demand_of.field-0 } in
           let items = w.in_ok-push.ensures.items in
           rw (w.gates-is, items) (record {
             places = map-append (λ gate. gate.place) c.loop-p.gates.items (gate ∷ []) ∙ ap (λ list. list ++ p ∷ []) c.loop-p.invariant.places

@@ -17,7 +17,7 @@ loop-connector-preserved c =
     let earlier = All-weaker (IsIdleUntil places put c.loop-connector.until) (IsIdleUntil places put until)
     (λ one is s from before. is s from (omega (arith, before, c.min-until.ensures))) _ c.loop-connector.invariant in
     let here : IsIdleUntil places put until connector = λ s from before.
-    ap (flow_at connector.course s) (sym c.held_by.ensures) ∙ c.idle_until.ensures s from (omega (arith, before, c.min-until.ensures)) in
+    ap (flow_at connector.timeline s) (sym c.held_by.ensures) ∙ c.idle_until.ensures s from (omega (arith, before, c.min-until.ensures)) in
     All-more (IsIdleUntil places put until) c.args.connectors.now i connector (omega (arith, c.loop-connector-test.true)) earlier
     (subst (IsIdleUntil places put until) c.connector-item.is here)
 

@@ -30,7 +30,7 @@ opened rows = record {
   before = rows.before.items;
   speeds = rows.speeds.items;
   zones = rows.zones.items;
-  speed_courses = rows.speed_courses.items;
+  speed_timelines = rows.speed_timelines.items;
   speeds_until = rows.speeds_until;
   links = rows.links.items;
   connectors = rows.connectors.items;
@@ -69,7 +69,7 @@ abbrev renewed : After-follow_connectors-self-inside → Renewal
 renewed c = record {
   places = c.refresh.new.places;
   links = c.refresh.new.links;
-  courses = c.follow_speeds-self-inside.new.courses;
+  timelines = c.follow_speeds-self-inside.new.timelines;
   speeds = c.follow_speeds-self-inside.new.speeds;
   until = c.follow_speeds-self-inside.result;
 }
@@ -302,7 +302,7 @@ returns-clause-placed c =
       waited-unowed pause.owed after none,
       with_items_is c.self.inside.links c.refresh.new.links (c.refresh.auto.links ∙ c.deref_mut.ensures.len),
       with_items_is c.self.inside.speeds c.follow_speeds-self-inside.new.speeds (c.follow_speeds-self-inside.auto.speeds ∙ c.deref_mut-4.ensures.len),
-      with_items_is c.self.inside.speed_courses c.follow_speeds-self-inside.new.courses (c.follow_speeds-self-inside.auto.courses ∙ c.deref_mut-3.ensures.len),
+      with_items_is c.self.inside.speed_timelines c.follow_speeds-self-inside.new.timelines (c.follow_speeds-self-inside.auto.timelines ∙ c.deref_mut-3.ensures.len),
       before_is,
       connectors-are e,
       with_items_is c.self.inside.gates gates (c.bring_demands.auto.gates ∙ c.deref_mut-9.ensures.len),

@@ -1,4 +1,0 @@
-pub mod Courses
-pub mod Passing
-pub mod Cells
-pub mod Links

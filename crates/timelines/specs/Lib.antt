@@ -1,0 +1,4 @@
+pub mod Timelines
+pub mod Passing
+pub mod Cells
+pub mod Links
