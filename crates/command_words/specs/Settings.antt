@@ -1,6 +1,6 @@
 -- The options: the word of each, its values, and its default.
-use Rattle.std.specs.Prelude.{ℕ, List, [], ◌∷◌, Option, codes}
-use Rattle.command_words.specs.Values.{IsAmong, OptionValues, numbers, numbers_or, value_among, words}
+use Rattle.std.specs.Prelude.{ℕ, List, [], ◌∷◌, codes}
+use Rattle.command_words.specs.Values.{IsAmong, OptionValues, numbers, numbers_or, words}
 use Rattle.command_words.specs.declared.setting.Setting.{Setting}
 use Rattle.command_words.specs.declared.setting.Setting.TheVariants.{Regions, Cutting, Parts, Workers, Every, Shots, Until, Size, Seed}
 
@@ -28,7 +28,3 @@ terms_of Seed = terms (codes "seed") (numbers 0 999_999_999) 1
 -- the value is one that the option may have
 abbrev pub IsAllowed : Setting → ℕ → Type 0
 IsAllowed option value = IsAmong (terms_of option).values value
-
--- the value that a text stands for, where the option has it
-unfoldable pub value_spelled : Setting → List ℕ → Option ℕ
-value_spelled option text = value_among (terms_of option).values text

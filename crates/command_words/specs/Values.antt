@@ -1,7 +1,7 @@
 -- The values of an option: which texts it takes, and which number each of them stands for.
-use Rattle.std.specs.Prelude.{ℕ, ◌≤◌, ◌<◌, ◌^◌, ◌&&◌, ⊤, nat_le, List, Option, Some, bytes_eq, if◌then◌else◌, length, map, position}
+use Rattle.std.specs.Prelude.{ℕ, ◌≤◌, ◌<◌, ◌^◌, ◌&&◌, ⊤, nat_le, List, Option, Some, None, bytes_eq, if◌then◌else◌, length, map, position}
 use Rattle.fixed_flow.specs.Spelling.{whole_of}
-use Rattle.command_words.specs.Sequence.{◌>>=◌, ◌>>◌, must}
+use Rattle.command_words.specs.Sequence.{◌>>=◌}
 use Rattle.command_words.specs.declared.values.Values.{Values}
 use Rattle.command_words.specs.declared.values.Values.TheVariants.{Numbers, NumbersOr, Words}
 
@@ -23,8 +23,7 @@ IsAmong (words list) value = value < length list
 unfoldable pub number_within : (least most : ℕ) → List ℕ → Option ℕ
 number_within least most text = do
   value ← whole_of text
-  must (nat_le least value && nat_le value most)
-  Some value
+  if nat_le least value && nat_le value most then Some value else None
 
 -- the value that a text stands for, where it is one of these
 unfoldable pub value_among : OptionValues → List ℕ → Option ℕ

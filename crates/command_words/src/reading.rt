@@ -1,7 +1,7 @@
-ghost use Rattle.std.specs.Prelude.{◌≡◌, IfOk, IfSome, None, Some, map, option_map, string_bytes};
+ghost use Rattle.std.specs.Prelude.{◌≡◌, IfOk, IfSome, None, Some, eqb, if◌then◌else◌, map, option_map, string_bytes};
 ghost use Rattle.clap.specs.Words.{first_of, found_of, rows_of};
 ghost use Rattle.command_words.specs.Settings.{IsAllowed};
-ghost use Rattle.command_words.specs.Words.{IsInRange, number_unless_chosen, request_in, request_of, value_of};
+ghost use Rattle.command_words.specs.Words.{IsInRange, request_in, request_of, value_of};
 
 use crate::known_words::{MODE, known_words};
 use crate::mode::Mode;
@@ -47,7 +47,7 @@ fn requested(matches: &ArgMatches) -> Option<Request>
 
 // The number of regions for a value of its option, where it isn't to be chosen.
 fn unless_chosen(value: u32) -> Option<u32>
-    ensures { result ≡ number_unless_chosen value }
+    ensures { result ≡ if eqb value 0 then None else Some value }
 {
     if value == 0 { None } else { Some(value) }
 }

@@ -1,6 +1,6 @@
 ghost use Rattle.std.specs.Prelude.{◌≡◌, IfSome};
-ghost use Rattle.command_words.specs.Settings.{IsAllowed, terms_of, value_spelled};
-ghost use Rattle.command_words.specs.Values.{AreFew, values_kept};
+ghost use Rattle.command_words.specs.Settings.{IsAllowed, terms_of};
+ghost use Rattle.command_words.specs.Values.{AreFew, value_among, values_kept};
 
 use crate::values::Values;
 
@@ -78,9 +78,8 @@ impl Setting {
     }
 
     /// The value that a text stands for, where the option has it.
-    #[tactic(auto, unfolding(crate::specs::Settings::value_spelled))]
     pub fn value(self, text: &str) -> Option<u32>
-        ensures value { result ≡ value_spelled self text.now }
+        ensures value { result ≡ value_among (terms_of self).values text.now }
         ensures in_range { IfSome result (IsAllowed self) }
     {
         self.terms().values.value(text)
