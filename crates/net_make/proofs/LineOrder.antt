@@ -1,12 +1,16 @@
 -- One main cell more, and the lines of one more.
-use Rattle.std.specs.Prelude.{Bool, flat_map, map}
+use Rattle.std.specs.Prelude.{Bool, codes, flat_map, map}
 use Rattle.std.specs.List.{filter, range_with_len}
 use Rattle.std.proofs.Common.{◌≡◌, ℕ, ◌+◌, true, false, List, [], ◌∷◌, ◌++◌, length, refl, sym, ap, ◌∙◌, arith, append_assoc}
 use Rattle.std.proofs.lemmas.Grind.{flat_map-append}
 use Rattle.std.proofs.lemmas.List.{append-nil, length-append, map-append, map-id}
 use Rattle.std.proofs.lemmas.List.Elements.{filter-append}
 use Rattle.std.proofs.lemmas.List.FromFn.{map-range_with_len_more}
-use Rattle.net_make.specs.Made.{cell_lines, ended, main_cells, text_of}
+use Rattle.net_make.specs.Made.{cell_lines, main_cells, text_of}
+
+-- a line, ended by a line feed
+abbrev pub ended : List ℕ → List ℕ
+ended line = line ++ codes "\n"
 
 pub main_cells-more : (n : ℕ) → main_cells (n + 1) ≡ main_cells n ++ n ∷ []
 main_cells-more n =
@@ -25,6 +29,11 @@ passing-no test n fails =
 -- lines behind lines
 pub text_of-append : (front back : List (List ℕ)) → text_of (front ++ back) ≡ text_of front ++ text_of back
 text_of-append front back = flat_map-append ended front back
+
+-- a line, and behind it two lists of others
+pub written-three : (old first road on all : List ℕ) (one other : List (List ℕ)) → road ≡ old ++ ended first → on ≡ road ++ text_of one → all ≡ on ++ text_of other →
+    all ≡ old ++ text_of (first ∷ one ++ other)
+written-three old first road on all one other is_road is_on is_all = rw (is_all, is_on, is_road, text_of-append one other) (simp append_assoc)
 
 -- one line more
 pub text_of-map-more : (line : ℕ → List ℕ) (cells : List ℕ) (i : ℕ) → text_of (map line (cells ++ i ∷ [])) ≡ text_of (map line cells) ++ ended (line i)

@@ -1,5 +1,5 @@
-ghost use Rattle.std.specs.Prelude.{◌≡◌, ◌<◌, ◌++◌, OnOk};
-ghost use Rattle.net_make.specs.Made.{cell_lines, cells, ended, has_off_ramp, has_on_ramp, line_where, off_ramp_line, on_ramp_line, road_line, text_of};
+ghost use Rattle.std.specs.Prelude.{◌≡◌, ◌<◌, ◌++◌, OnOk, codes, decimal};
+ghost use Rattle.net_make.specs.Made.{cell_lines, cells, has_off_ramp, has_on_ramp, line_where, text_of};
 
 use crate::features::{has_off_ramp, has_on_ramp};
 use crate::numbers::put_number;
@@ -21,39 +21,32 @@ fn put_cell(text: &mut Vec<u8>, size: u32, i: u32) -> Result<(), NoMemory>
     requires { i < size }
     ensures { OnOk result (text.new.items ≡ text.old.items ++ text_of (cell_lines size i)) }
 {
-    put_road(text, i)?;
-    if has_on_ramp(i) {
-        put_on_ramp(text, i)?;
-    }
-    if has_off_ramp(size, i) {
-        put_off_ramp(text, i)?;
-    }
-    Ok(())
-}
-
-#[tactic(auto, unfolding(crate::specs::Made::road_line))]
-fn put_road(text: &mut Vec<u8>, i: u32) -> Result<(), NoMemory>
-    ensures { OnOk result (text.new.items ≡ text.old.items ++ ended (road_line i)) }
-{
     put_number(text, b"road,m", i)?;
     text.extend_from_slice(b",12,4,1,2,0\n")?;
+    put_on_ramp(text, i)?;
+    put_off_ramp(text, size, i)?;
     Ok(())
 }
 
-#[tactic(auto, unfolding(crate::specs::Made::on_ramp_line))]
+// Appends the on-ramp at main cell `i`, where there is one.
 fn put_on_ramp(text: &mut Vec<u8>, i: u32) -> Result<(), NoMemory>
-    ensures { OnOk result (text.new.items ≡ text.old.items ++ ended (on_ramp_line i)) }
+    ensures { OnOk result (text.new.items ≡ text.old.items ++ text_of (line_where (has_on_ramp i) (codes "gate,r" ++ decimal i ++ codes ",1,0"))) }
 {
-    put_number(text, b"gate,r", i)?;
-    text.extend_from_slice(b",1,0\n")?;
+    if has_on_ramp(i) {
+        put_number(text, b"gate,r", i)?;
+        text.extend_from_slice(b",1,0\n")?;
+    }
     Ok(())
 }
 
-#[tactic(auto, unfolding(crate::specs::Made::off_ramp_line))]
-fn put_off_ramp(text: &mut Vec<u8>, i: u32) -> Result<(), NoMemory>
-    ensures { OnOk result (text.new.items ≡ text.old.items ++ ended (off_ramp_line i)) }
+// Appends the off-ramp at main cell `i`, where there is one.
+fn put_off_ramp(text: &mut Vec<u8>, size: u32, i: u32) -> Result<(), NoMemory>
+    requires { i < size }
+    ensures { OnOk result (text.new.items ≡ text.old.items ++ text_of (line_where (has_off_ramp size i) (codes "exit,f" ++ decimal i ++ codes ",2"))) }
 {
-    put_number(text, b"exit,f", i)?;
-    text.extend_from_slice(b",2\n")?;
+    if has_off_ramp(size, i) {
+        put_number(text, b"exit,f", i)?;
+        text.extend_from_slice(b",2\n")?;
+    }
     Ok(())
 }

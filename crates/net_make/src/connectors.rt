@@ -1,5 +1,5 @@
-ghost use Rattle.std.specs.Prelude.{◌≡◌, ◌+◌, ◌^◌, ◌<◌, ◌≤◌, ◌++◌, OnOk};
-ghost use Rattle.net_make.specs.Made.{connectors, connector_line, diverge_line, ended, last_link, link_line, merge_line, text_of};
+ghost use Rattle.std.specs.Prelude.{◌≡◌, ◌+◌, ◌-◌, ◌^◌, ◌<◌, ◌≤◌, ◌++◌, OnOk, codes, decimal};
+ghost use Rattle.net_make.specs.Made.{connector_line, connectors, text_of};
 
 use crate::features::{has_off_ramp, has_on_ramp};
 use crate::numbers::put_number;
@@ -18,10 +18,9 @@ pub(crate) fn put_connectors(text: &mut Vec<u8>, size: u32) -> Result<(), NoMemo
     Ok(())
 }
 
-#[tactic(auto, unfolding(crate::specs::Made::last_link))]
 fn put_last_link(text: &mut Vec<u8>, size: u32) -> Result<(), NoMemory>
     requires { 1 ≤ size }
-    ensures { OnOk result (text.new.items ≡ text.old.items ++ ended (last_link size)) }
+    ensures { OnOk result (text.new.items ≡ text.old.items ++ codes "link,m" ++ decimal (size - 1) ++ codes ",out\n") }
 {
     put_number(text, b"link,m", size - 1)?;
     text.extend_from_slice(b",out\n")?;
@@ -30,7 +29,7 @@ fn put_last_link(text: &mut Vec<u8>, size: u32) -> Result<(), NoMemory>
 
 fn put_connector(text: &mut Vec<u8>, size: u32, i: u32) -> Result<(), NoMemory>
     requires { i + 1 < size }
-    ensures { OnOk result (text.new.items ≡ text.old.items ++ ended (connector_line size i)) }
+    ensures { OnOk result (text.new.items ≡ text.old.items ++ connector_line size i ++ codes "\n") }
 {
     if has_off_ramp(size, i) {
         put_diverge(text, i)
@@ -41,10 +40,9 @@ fn put_connector(text: &mut Vec<u8>, size: u32, i: u32) -> Result<(), NoMemory>
     }
 }
 
-#[tactic(auto, unfolding(crate::specs::Made::diverge_line))]
 fn put_diverge(text: &mut Vec<u8>, i: u32) -> Result<(), NoMemory>
     requires { i + 1 < 2 ^ 32 }
-    ensures { OnOk result (text.new.items ≡ text.old.items ++ ended (diverge_line i)) }
+    ensures { OnOk result (text.new.items ≡ text.old.items ++ codes "diverge,m" ++ decimal i ++ codes ",m" ++ decimal (i + 1) ++ codes ",f" ++ decimal i ++ codes ",4,1\n") }
 {
     put_number(text, b"diverge,m", i)?;
     put_number(text, b",m", i + 1)?;
@@ -53,10 +51,9 @@ fn put_diverge(text: &mut Vec<u8>, i: u32) -> Result<(), NoMemory>
     Ok(())
 }
 
-#[tactic(auto, unfolding(crate::specs::Made::merge_line))]
 fn put_merge(text: &mut Vec<u8>, i: u32) -> Result<(), NoMemory>
     requires { i + 1 < 2 ^ 32 }
-    ensures { OnOk result (text.new.items ≡ text.old.items ++ ended (merge_line i)) }
+    ensures { OnOk result (text.new.items ≡ text.old.items ++ codes "merge,m" ++ decimal i ++ codes ",r" ++ decimal (i + 1) ++ codes ",m" ++ decimal (i + 1) ++ codes ",3,1\n") }
 {
     put_number(text, b"merge,m", i)?;
     put_number(text, b",r", i + 1)?;
@@ -65,10 +62,9 @@ fn put_merge(text: &mut Vec<u8>, i: u32) -> Result<(), NoMemory>
     Ok(())
 }
 
-#[tactic(auto, unfolding(crate::specs::Made::link_line))]
 fn put_link(text: &mut Vec<u8>, i: u32) -> Result<(), NoMemory>
     requires { i + 1 < 2 ^ 32 }
-    ensures { OnOk result (text.new.items ≡ text.old.items ++ ended (link_line i)) }
+    ensures { OnOk result (text.new.items ≡ text.old.items ++ codes "link,m" ++ decimal i ++ codes ",m" ++ decimal (i + 1) ++ codes "\n") }
 {
     put_number(text, b"link,m", i)?;
     put_number(text, b",m", i + 1)?;

@@ -1,6 +1,7 @@
-ghost use Rattle.std.specs.Prelude.{◌≡◌, ℕ, ◌+◌, ◌++◌, length, OnOk};
+ghost use Rattle.std.specs.Prelude.{◌≡◌, ℕ, ◌+◌, ◌%◌, ◌++◌, OnOk, codes, length};
+ghost use Rattle.fixed_flow.specs.Printed.{amount_text};
 ghost use Rattle.net_make.specs.Draws.{state_after};
-ghost use Rattle.net_make.specs.Made.{demands, ended, main_demand, on_ramps, ramp_demand, text_of};
+ghost use Rattle.net_make.specs.Made.{demands, on_ramps, ramp_demand, text_of};
 
 use crate::draws::Draws;
 use crate::features::has_on_ramp;
@@ -21,9 +22,8 @@ pub(crate) fn put_demands(text: &mut Vec<u8>, size: u32, draws: &mut Draws) -> R
     Ok(())
 }
 
-#[tactic(auto, unfolding(crate::specs::Made::main_demand))]
 fn put_main_demand(text: &mut Vec<u8>, drawn: u32) -> Result<(), NoMemory>
-    ensures { OnOk result (text.new.items ≡ text.old.items ++ ended (main_demand drawn)) }
+    ensures { OnOk result (text.new.items ≡ text.old.items ++ codes "demand,g,0,20," ++ amount_text (1_000_000 + drawn % 2_000_001) ++ codes "\n") }
 {
     text.extend_from_slice(b"demand,g,0,20,")?;
     put_amount(text, 1_000_000 + drawn % 2_000_001)?;
@@ -33,7 +33,7 @@ fn put_main_demand(text: &mut Vec<u8>, drawn: u32) -> Result<(), NoMemory>
 
 #[tactic(auto, unfolding(crate::specs::Made::ramp_demand))]
 fn put_ramp_demand(text: &mut Vec<u8>, drawn: u32, i: u32) -> Result<(), NoMemory>
-    ensures { OnOk result (text.new.items ≡ text.old.items ++ ended (ramp_demand drawn i)) }
+    ensures { OnOk result (text.new.items ≡ text.old.items ++ ramp_demand drawn i ++ codes "\n") }
 {
     put_number(text, b"demand,r", i)?;
     text.extend_from_slice(b",0,20,")?;

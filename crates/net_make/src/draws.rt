@@ -1,5 +1,5 @@
-ghost use Rattle.std.specs.Prelude.{◌≡◌, ℕ, ◌+◌, ◌/◌, ◌^◌};
-ghost use Rattle.net_make.specs.Draws.{draw, next_state, state_after};
+ghost use Rattle.std.specs.Prelude.{◌≡◌, ℕ, ◌+◌, ◌*◌, ◌/◌, ◌%◌, ◌^◌};
+ghost use Rattle.net_make.specs.Draws.{draw, state_after};
 
 // The constants of Knuth's MMIX.
 const MULTIPLIER: u64 = 6_364_136_223_846_793_005;
@@ -32,9 +32,8 @@ impl Draws {
         (self.state >> 32) as u32
     }
 
-    #[tactic(auto, unfolding(crate::specs::Draws::next_state))]
     fn advance(&mut self)
-        ensures { self.new.state ≡ next_state self.old.state }
+        ensures { self.new.state ≡ (6_364_136_223_846_793_005 * self.old.state + 1_442_695_040_888_963_407) % 2 ^ 64 }
     {
         self.state = self.state.wrapping_mul(MULTIPLIER).wrapping_add(INCREMENT);
     }

@@ -1,5 +1,5 @@
-ghost use Rattle.std.specs.Prelude.{◌≡◌, ◌<◌};
-ghost use Rattle.net_make.specs.Made.{has_off_ramp, has_on_ramp, has_signal};
+ghost use Rattle.std.specs.Prelude.{◌≡◌, ◌<◌, ◌%◌, ◌==◌, ◌&&◌, nat_lt};
+ghost use Rattle.net_make.specs.Made.{has_off_ramp, has_on_ramp};
 
 /// Whether main cell `i` has an on-ramp.
 pub(crate) fn has_on_ramp(i: u32) -> bool
@@ -18,7 +18,7 @@ pub(crate) fn has_off_ramp(size: u32, i: u32) -> bool
 
 /// Whether main cell `i` has a signal.
 pub(crate) fn has_signal(i: u32) -> bool
-    ensures { result ≡ has_signal i }
+    ensures { result ≡ (i % 8 == 0 && nat_lt 0 i) }
 {
     i % 8 == 0 && i > 0
 }

@@ -1,6 +1,6 @@
-ghost use Rattle.std.specs.Prelude.{◌≡◌, ℕ, ◌+◌, ◌≤◌, ◌++◌, length, OnOk};
+ghost use Rattle.std.specs.Prelude.{◌≡◌, ℕ, ◌+◌, ◌≤◌, ◌%◌, ◌++◌, codes, decimal, length, OnOk};
 ghost use Rattle.net_make.specs.Draws.{state_after};
-ghost use Rattle.net_make.specs.Made.{ended, incident, incident_line, on_ramps, signals, text_of};
+ghost use Rattle.net_make.specs.Made.{incident, on_ramps, signals, text_of};
 
 use crate::draws::Draws;
 use crate::numbers::put_number;
@@ -18,10 +18,9 @@ pub(crate) fn put_incident(text: &mut Vec<u8>, size: u32, draws: &mut Draws) -> 
     Ok(())
 }
 
-#[tactic(auto, unfolding(crate::specs::Made::incident_line))]
 fn put_limit(text: &mut Vec<u8>, drawn: u32, size: u32) -> Result<(), NoMemory>
     requires { 1 ≤ size }
-    ensures { OnOk result (text.new.items ≡ text.old.items ++ ended (incident_line drawn size)) }
+    ensures { OnOk result (text.new.items ≡ text.old.items ++ codes "limit,m" ++ decimal (drawn % size) ++ codes ",10,20,1\n") }
 {
     put_number(text, b"limit,m", drawn % size)?;
     text.extend_from_slice(b",10,20,1\n")?;

@@ -1,5 +1,5 @@
-ghost use Rattle.std.specs.Prelude.{◌≡◌, ◌≤◌, ◌++◌, IfOk, OnOk};
-ghost use Rattle.net_make.specs.Made.{ended, head, made, steps_line, text_of};
+ghost use Rattle.std.specs.Prelude.{◌≡◌, ◌≤◌, ◌+◌, ◌*◌, ◌++◌, IfOk, OnOk, codes, decimal};
+ghost use Rattle.net_make.specs.Made.{head, made, text_of};
 
 use crate::cells::put_cells;
 use crate::connectors::put_connectors;
@@ -39,9 +39,8 @@ fn put_head(text: &mut Vec<u8>, size: u32) -> Result<(), NoMemory>
     Ok(())
 }
 
-#[tactic(auto, unfolding(crate::specs::Made::steps_line))]
 fn put_steps(text: &mut Vec<u8>, size: u32) -> Result<(), NoMemory>
-    ensures { OnOk result (text.new.items ≡ text.old.items ++ ended (steps_line size)) }
+    ensures { OnOk result (text.new.items ≡ text.old.items ++ codes "steps," ++ decimal (40 + 2 * size) ++ codes "\n") }
 {
     let mut digits = Buffer::new();
     text.extend_from_slice(b"steps,")?;

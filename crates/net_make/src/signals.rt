@@ -1,6 +1,6 @@
-ghost use Rattle.std.specs.Prelude.{◌≡◌, ℕ, ◌+◌, ◌++◌, length, OnOk};
+ghost use Rattle.std.specs.Prelude.{◌≡◌, ℕ, ◌+◌, ◌++◌, codes, length, OnOk};
 ghost use Rattle.net_make.specs.Draws.{state_after};
-ghost use Rattle.net_make.specs.Made.{ended, on_ramps, signal_line, signal_lines, signals, text_of};
+ghost use Rattle.net_make.specs.Made.{on_ramps, signal_line, signal_lines, signals, text_of};
 
 use crate::draws::Draws;
 use crate::features::has_signal;
@@ -24,7 +24,7 @@ pub(crate) fn put_signals(text: &mut Vec<u8>, size: u32, draws: &mut Draws) -> R
 
 #[tactic(auto, unfolding(crate::specs::Made::signal_line))]
 fn put_signal(text: &mut Vec<u8>, drawn: u32, i: u32) -> Result<(), NoMemory>
-    ensures { OnOk result (text.new.items ≡ text.old.items ++ ended (signal_line drawn i)) }
+    ensures { OnOk result (text.new.items ≡ text.old.items ++ signal_line drawn i ++ codes "\n") }
 {
     put_number(text, b"signal,m", i)?;
     put_number(text, b",6,", drawn % 6)?;

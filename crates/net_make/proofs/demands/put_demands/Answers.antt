@@ -1,15 +1,15 @@
 use Rattle.std.specs.Prelude.{map}
 use Rattle.std.proofs.Common.{◌≡◌, ℕ, ◌+◌, List, ◌++◌, true, false, append_assoc, arith, ap, length, sym, ◌∙◌}
-use Rattle.net_make.specs.Draws.{state_after}
-use Rattle.net_make.specs.Made.{demands, ended, has_on_ramp, on_ramps, ramp_demand, ramp_draw, text_of}
-use Rattle.net_make.proofs.LineOrder.{count-passing-yes, passing-no, text-passing-yes}
+use Rattle.net_make.specs.Draws.{draw, state_after}
+use Rattle.net_make.specs.Made.{demands, has_on_ramp, on_ramps, ramp_demand, text_of}
+use Rattle.net_make.proofs.LineOrder.{count-passing-yes, ended, passing-no, text-passing-yes}
 use Rattle.net_make.proofs.demands.put_demands.Goals as goal
 use Rattle.net_make.proofs.demands.put_demands.Goals.{then-has_on_ramp+in_ok-put_ramp_demand, else-has_on_ramp}
 
 pub loop-i-preserved : goal.loop-i-preserved
 loop-i-preserved c = λ seed here.
     let i = c.loop-i.i in
-    let line : ℕ → List ℕ = λ i. ramp_demand (ramp_draw seed i) i in
+    let line : ℕ → List ℕ = λ i. ramp_demand (draw seed (1 + length (on_ramps i))) i in
     let so_far = c.loop-i.invariant seed here in
     elim c.if-has_on_ramp.branch [
       | then-has_on_ramp+in_ok-put_ramp_demand w ↦
@@ -19,7 +19,7 @@ loop-i-preserved c = λ seed here.
             ap (λ draws. draws.state) w.draws-is ∙ w.draw-then-has_on_ramp.ensures.next seed (1 + length (on_ramps i)) so_far.0 ∙ ap (state_after seed) one_more,
             ap (λ text. text.items) w.text-is ∙
                 text-passing-yes line has_on_ramp i c.put_main_demand.new.text.items c.loop-i.text.items w.put_ramp_demand.new.text.items passes so_far.1
-                (w.in_ok-put_ramp_demand.ensures ∙ ap (λ drawn. c.loop-i.text.items ++ ended (ramp_demand drawn i)) drawn),
+                (w.in_ok-put_ramp_demand.ensures ∙ append_assoc c.loop-i.text.items _ _ ∙ ap (λ drawn. c.loop-i.text.items ++ ended (ramp_demand drawn i)) drawn),
           )
       | else-has_on_ramp w ↦
           let fails : has_on_ramp i ≡ false = sym c.has_on_ramp.ensures ∙ w.if-has_on_ramp.false in

@@ -1,16 +1,20 @@
-use Rattle.std.specs.Prelude.{map}
-use Rattle.std.proofs.Common.{◌≡◌, ℕ, ◌+◌, List, ◌++◌, true, false, arith, ap, length, refl, sym, ◌∙◌}
-use Rattle.net_make.specs.Draws.{state_after}
-use Rattle.net_make.specs.Made.{ended, has_signal, on_ramps, signal_draw, signal_line, signal_lines, signals, text_of}
-use Rattle.net_make.proofs.LineOrder.{count-passing-yes, passing-no, text-passing-yes}
+use Rattle.std.specs.Prelude.{Bool, ◌%◌, ◌==◌, ◌&&◌, map, nat_lt}
+use Rattle.std.proofs.Common.{◌≡◌, ℕ, ◌+◌, List, ◌++◌, true, false, append_assoc, arith, ap, length, refl, sym, ◌∙◌}
+use Rattle.net_make.specs.Draws.{draw, state_after}
+use Rattle.net_make.specs.Made.{on_ramps, signal_line, signal_lines, signals, text_of}
+use Rattle.net_make.proofs.LineOrder.{count-passing-yes, ended, passing-no, text-passing-yes}
 use Rattle.net_make.proofs.signals.put_signals.Goals as goal
 use Rattle.net_make.proofs.signals.put_signals.Goals.{then-has_signal+in_ok-put_signal, else-has_signal}
+
+-- a main cell with a signal
+abbrev has_signal : (i : ℕ) → Bool
+has_signal i = i % 8 == 0 && nat_lt 0 i
 
 pub loop-i-preserved : goal.loop-i-preserved
 loop-i-preserved c = λ seed here.
     let i = c.loop-i.i in
     let before : ℕ = 1 + length (on_ramps c.args.size) in
-    let line : ℕ → List ℕ = λ i. signal_line (signal_draw c.args.size seed i) i in
+    let line : ℕ → List ℕ = λ i. signal_line (draw seed (1 + length (on_ramps c.args.size) + length (signals i))) i in
     let so_far = c.loop-i.invariant seed here in
     elim c.if-has_signal.branch [
       | then-has_signal+in_ok-put_signal w ↦
@@ -20,7 +24,7 @@ loop-i-preserved c = λ seed here.
             ap (λ draws. draws.state) w.draws-is ∙ w.draw.ensures.next seed (before + length (signals i)) so_far.0 ∙ ap (state_after seed) one_more,
             ap (λ text. text.items) w.text-is ∙
                 text-passing-yes line has_signal i c.args.text.now.items c.loop-i.text.items w.put_signal.new.text.items passes so_far.1
-                (w.in_ok-put_signal.ensures ∙ ap (λ drawn. c.loop-i.text.items ++ ended (signal_line drawn i)) drawn),
+                (w.in_ok-put_signal.ensures ∙ append_assoc c.loop-i.text.items _ _ ∙ ap (λ drawn. c.loop-i.text.items ++ ended (signal_line drawn i)) drawn),
           )
       | else-has_signal w ↦
           let fails : has_signal i ≡ false = sym c.has_signal.ensures ∙ w.if-has_signal.false in
