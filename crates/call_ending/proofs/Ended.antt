@@ -1,33 +1,37 @@
 -- A call by its answer: what `end` did with the answer is how the call ended.
-use Rattle.std.proofs.Common.{◌≡◌, ℕ, List, Option, inl, inr, subst, sym}
-use Rattle.call_ending.specs.Ending.{HasEnded, HasWritten, IsCutOff, IsUnwritten, SinkUse}
-use Rattle.call_ending.specs.Refusing.{IsRefusalOf, Why, line_of, status_of}
+use Rattle.std.proofs.Common.{◌≡◌, ℕ, List, Option, Some, inl, inr, subst, sym}
+use Rattle.call_ending.specs.Ending.{HasEnded, HasWritten, IsTold, IsUnwritten, SinkUse}
+use Rattle.call_ending.specs.Refusing.{IsRefusalOf, Why, cause_status, line_of, status_of}
+use Rattle.call_ending.specs.declared.cause.Cause.{Cause}
+use Rattle.call_ending.specs.declared.cause.Cause.TheVariants as cause
 use Rattle.call_ending.specs.declared.refusal.Refusal.{Refusal}
 use Rattle.call_ending.specs.declared.refusal.Refusal.TheVariants as refusal
 use Rattle.call_ending.specs.declared.status.Status.{Status}
+use Rattle.call_ending.specs.declared.status.Status.TheVariants as status
 
--- what is cut off of a text that answers
-cut_off-as : (IsText : List ℕ → Type 0) (out : SinkUse) (text : List ℕ) → IsText text → IsCutOff (λ written. written ≡ text) out → IsCutOff IsText out
-cut_off-as IsText out text is cut = record { text = cut.text; is_text = subst IsText (sym cut.is_text) is; prefix = cut.prefix }
+module _ (IsText : List ℕ → Type 0) (why : Option Why) (IsRead ReadFailed : Type 0) where
+  -- a text that answers, written
+  pub ended-written : (told : Status) (out err : SinkUse) (text : List ℕ) → IsText text → IsRead → HasWritten text told out err → HasEnded IsText why IsRead ReadFailed told out err
+  ended-written status.Done out err text is read written = (text, is, written.0, read, written.1)
+  ended-written status.WriteFault out err text is read written = (written.0, record { text = text; is_text = is; prefix = written.1 }, written.2)
+  ended-written status.NoMemory out err text is read written = (inr (written.0, record { text = text; is_text = is; prefix = written.1 }), written.2)
+  ended-written other out err text is read written = absurd written
 
--- a text that answers, written
-pub ended-written : (IsText : List ℕ → Type 0) (why : Option Why) (IsRead ReadFailed : Type 0) (status : Status) (out err : SinkUse) (text : List ℕ) →
-    IsText text → IsRead → HasWritten text status out err → HasEnded IsText why IsRead ReadFailed status out err
-ended-written IsText why IsRead ReadFailed status out err text is read written = elim written [
-  | inl done ↦ inl (record { ends = done.ends; text = done.text; is_text = subst IsText (sym done.is_text) is; written = done.written; read = read; err_kept = done.err_kept })
-  | inr other ↦ elim other [
-    | inl fault ↦ inr (inr (inr (inl (record { ends = fault.ends; failed = fault.failed; told = fault.told; cut_off = cut_off-as IsText out text is fault.cut_off }))))
-    | inr memory ↦ inr (inr (inr (inr (record { ends = memory.ends; told = memory.told; out_kept = inr (memory.wanted, cut_off-as IsText out text is memory.cut_off) }))))
-  ]
-]
+  -- the answer's own refusal, told
+  answered-told : (by : Cause) (line : List ℕ) (out err : SinkUse) → why ≡ Some (record { status = cause_status by; line = line }) → IsTold line err → out.Kept →
+      HasEnded IsText why IsRead ReadFailed (cause_status by) out err
+  answered-told cause.Words line out err is told kept = (line, is, kept, told)
+  answered-told other line out err is told kept = (line, is, kept, told)
 
--- a refusal that the answer allows, told
-pub ended-unwritten : (IsText : List ℕ → Type 0) (why : Option Why) (IsRead ReadFailed : Type 0) (status : Status) (out err : SinkUse) (told : Refusal) →
-    IsRefusalOf why ReadFailed told → IsUnwritten (status_of told) (line_of told) status out err → HasEnded IsText why IsRead ReadFailed status out err
-ended-unwritten IsText why IsRead ReadFailed status out err (refusal.Told answered line) is call =
-    inr (inl (record { why = _; answer = is; ends = call.ends; told = call.told; out_kept = call.out_kept }))
-ended-unwritten IsText why IsRead ReadFailed status out err refusal.ReadFault is call =
-    inr (inr (inl (record { ends = call.ends; failed = is; told = call.told; out_kept = call.out_kept })))
-ended-unwritten IsText why IsRead ReadFailed status out err refusal.WriteFault is call = absurd is
-ended-unwritten IsText why IsRead ReadFailed status out err refusal.NoMemory is call =
-    inr (inr (inr (inr (record { ends = call.ends; told = call.told; out_kept = inl call.out_kept }))))
+  refusal-told : (refused : Refusal) (out err : SinkUse) → IsRefusalOf why ReadFailed refused → IsTold (line_of refused) err → out.Kept →
+      HasEnded IsText why IsRead ReadFailed (status_of refused) out err
+  refusal-told (refusal.Told by line) out err is told kept = answered-told by _ out err is told kept
+  refusal-told refusal.ReadFault out err is told kept = (is, kept, told)
+  refusal-told refusal.WriteFault out err is told kept = absurd is
+  refusal-told refusal.NoMemory out err is told kept = (inl kept, told)
+
+  -- a refusal that the answer allows, told
+  pub ended-unwritten : (told : Status) (out err : SinkUse) (refused : Refusal) → IsRefusalOf why ReadFailed refused → IsUnwritten (status_of refused) (line_of refused) told out err →
+      HasEnded IsText why IsRead ReadFailed told out err
+  ended-unwritten told out err refused is call =
+      subst (λ status. HasEnded IsText why IsRead ReadFailed status out err) (sym call.ends) (refusal-told refused out err is call.told call.out_kept)

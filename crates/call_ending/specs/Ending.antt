@@ -1,8 +1,7 @@
 -- How a call ends, by what it may write and why it may write nothing.
-use Rattle.std.specs.Prelude.{◌≡◌, ℕ, List, Option, Some, ◌⊎◌, ⊤}
+use Rattle.std.specs.Prelude.{◌≡◌, ℕ, List, Option, Some, ◌⊎◌, codes}
 use Rattle.std.specs.Io.KnownBytes.{Appends}
 use Rattle.ctm_ports.specs.Written.{AppendsPrefix}
-use Rattle.call_ending.specs.Lines.{read_fault_line, write_fault_line, no_memory_line}
 use Rattle.call_ending.specs.Refusing.{Why}
 use Rattle.call_ending.specs.declared.status.Status.{Status}
 use Rattle.call_ending.specs.declared.status.Status.TheVariants.{Done, ReadFault, WriteFault, NoMemory}
@@ -24,48 +23,11 @@ pub record IsTold (line : List ℕ) (err : SinkUse) : Type 0 where
   pub prefix : AppendsPrefix err.before err.after line
   pub whole : Appends err.before err.after line ⊎ (err.Failed ⊎ err.Wanted)
 
--- 1. The call is done: the whole text stands on out, the input was read to its end, and err is as it was.
-pub record IsDone (IsText : List ℕ → Type 0) (IsRead : Type 0) (status : Status) (out err : SinkUse) : Type 0 where
-  pub ends : status ≡ Done
-  pub text : List ℕ
-  pub is_text : IsText text
-  pub written : Appends out.before out.after text
-  pub read : IsRead
-  pub err_kept : err.Kept
-
--- 2. The answer is that there is no text: err has its line, and out is as it was.
-pub record IsRefused (answered : Option Why) (status : Status) (out err : SinkUse) : Type 0 where
-  pub why : Why
-  pub answer : answered ≡ Some why
-  pub ends : status ≡ why.status
-  pub told : IsTold why.line err
-  pub out_kept : out.Kept
-
--- 3. A read of the input failed, and out is as it was.
-pub record HasReadFault (ReadFailed : Type 0) (status : Status) (out err : SinkUse) : Type 0 where
-  pub ends : status ≡ ReadFault
-  pub failed : ReadFailed
-  pub told : IsTold read_fault_line err
-  pub out_kept : out.Kept
-
 -- out has a prefix of a text
 pub record IsCutOff (IsText : List ℕ → Type 0) (out : SinkUse) : Type 0 where
   pub text : List ℕ
   pub is_text : IsText text
   pub prefix : AppendsPrefix out.before out.after text
-
--- 4. A write of the text failed: out has a prefix of it.
-pub record HasWriteFault (IsText : List ℕ → Type 0) (status : Status) (out err : SinkUse) : Type 0 where
-  pub ends : status ≡ WriteFault
-  pub failed : out.Failed
-  pub cut_off : IsCutOff IsText out
-  pub told : IsTold write_fault_line err
-
--- 5. Memory was refused: out is as it was, or it was out that asked for it and has a prefix of the text.
-pub record IsOutOfMemory (IsText : List ℕ → Type 0) (status : Status) (out err : SinkUse) : Type 0 where
-  pub ends : status ≡ NoMemory
-  pub told : IsTold no_memory_line err
-  pub out_kept : out.Kept ⊎ (out.Wanted × IsCutOff IsText out)
 
 -- a call whose answer is no text: err has its line, and out is as it was
 pub record IsUnwritten (answered : Status) (line : List ℕ) (status : Status) (out err : SinkUse) : Type 0 where
@@ -73,26 +35,24 @@ pub record IsUnwritten (answered : Status) (line : List ℕ) (status : Status) (
   pub told : IsTold line err
   pub out_kept : out.Kept
 
--- how a call ends, by the texts that answer it, or why none does, by whether its input is read to the end, and by whether a
--- read of it failed
+-- how a call ends, status by status: by the texts that answer it, or why none does, by whether its input is read to the end, and
+-- by whether a read of it failed
 abbrev pub HasEnded : (IsText : List ℕ → Type 0) (why : Option Why) (IsRead ReadFailed : Type 0) → Status → (out err : SinkUse) → Type 0
-HasEnded IsText why IsRead ReadFailed status out err =
-    IsDone IsText IsRead status out err
-    ⊎ IsRefused why status out err
-    ⊎ HasReadFault ReadFailed status out err
-    ⊎ HasWriteFault IsText status out err
-    ⊎ IsOutOfMemory IsText status out err
-
--- the writing of a text was cut off since memory for it was refused
-pub record IsWriteRefused (IsText : List ℕ → Type 0) (status : Status) (out err : SinkUse) : Type 0 where
-  pub ends : status ≡ NoMemory
-  pub wanted : out.Wanted
-  pub cut_off : IsCutOff IsText out
-  pub told : IsTold no_memory_line err
+-- the whole text stands on out, the input was read to its end, and err is as it was
+HasEnded IsText why IsRead ReadFailed Done out err = (text : List ℕ) × IsText text × Appends out.before out.after text × IsRead × err.Kept
+-- a read of the input failed, and out is as it was
+HasEnded IsText why IsRead ReadFailed ReadFault out err = ReadFailed × out.Kept × IsTold (codes "ctm: read fault\n") err
+-- a write of the text failed: out has a prefix of it
+HasEnded IsText why IsRead ReadFailed WriteFault out err = out.Failed × IsCutOff IsText out × IsTold (codes "ctm: write fault\n") err
+-- memory was refused: out is as it was, or it was out that asked for it and has a prefix of the text
+HasEnded IsText why IsRead ReadFailed NoMemory out err = (out.Kept ⊎ (out.Wanted × IsCutOff IsText out)) × IsTold (codes "ctm: no memory\n") err
+-- the answer is that there is no text, with this status and a line: err has the line, and out is as it was
+HasEnded IsText why IsRead ReadFailed answered out err =
+    (line : List ℕ) × (why ≡ Some (record { status = answered; line = line })) × out.Kept × IsTold line err
 
 -- how a call ends that has this text: all of it is written, or out failed, or out had no memory for it
 abbrev pub HasWritten : (text : List ℕ) → Status → (out err : SinkUse) → Type 0
-HasWritten text status out err =
-    IsDone (λ written. written ≡ text) ⊤ status out err
-    ⊎ HasWriteFault (λ written. written ≡ text) status out err
-    ⊎ IsWriteRefused (λ written. written ≡ text) status out err
+HasWritten text Done out err = Appends out.before out.after text × err.Kept
+HasWritten text WriteFault out err = out.Failed × AppendsPrefix out.before out.after text × IsTold (codes "ctm: write fault\n") err
+HasWritten text NoMemory out err = out.Wanted × AppendsPrefix out.before out.after text × IsTold (codes "ctm: no memory\n") err
+HasWritten text other out err = ⊥

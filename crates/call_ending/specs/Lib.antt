@@ -1,4 +1,3 @@
 pub mod Ending
-pub mod Lines
 pub mod Refusing
 pub mod Status

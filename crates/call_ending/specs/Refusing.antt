@@ -1,6 +1,5 @@
 -- Refusals: their status and their line, and which of them an answer allows.
-use Rattle.std.specs.Prelude.{◌≡◌, ℕ, List, Option, Some, ⊤}
-use Rattle.call_ending.specs.Lines.{read_fault_line, write_fault_line, no_memory_line}
+use Rattle.std.specs.Prelude.{◌≡◌, ℕ, List, Option, Some, ⊤, codes}
 use Rattle.call_ending.specs.declared.cause.Cause.{Cause}
 use Rattle.call_ending.specs.declared.cause.Cause.TheVariants as cause
 use Rattle.call_ending.specs.declared.refusal.Line.{Line}
@@ -34,9 +33,9 @@ status_of refusal.NoMemory = status.NoMemory
 
 abbrev pub line_of : Refusal → List ℕ
 line_of (refusal.Told by line) = bytes_of line
-line_of refusal.ReadFault = read_fault_line
-line_of refusal.WriteFault = write_fault_line
-line_of refusal.NoMemory = no_memory_line
+line_of refusal.ReadFault = codes "ctm: read fault\n"
+line_of refusal.WriteFault = codes "ctm: write fault\n"
+line_of refusal.NoMemory = codes "ctm: no memory\n"
 
 -- the refusal is the answer's own, or a read or a request for memory failed on the way to it
 abbrev pub IsRefusalOf : Option Why → (ReadFailed : Type 0) → Refusal → Type 0
