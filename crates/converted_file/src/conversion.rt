@@ -3,18 +3,18 @@ ghost use Rattle.std.specs.List.{flat_map};
 ghost use Rattle.converted_file.specs.Converted.{converted, header_line, record_line};
 ghost use Rattle.record_fields.specs.FileRecords.{IsReading, records_left};
 ghost use Rattle.network_file.specs.Reading.{network_of};
-ghost use Rattle.network_file.specs.Refused.{IsRefusal};
+ghost use Rattle.no_memory.specs.Answers.{IsRefusal};
 ghost use Rattle.converted_file.specs.SameNetwork.{SaysTheSame};
 
 use csv::Reader;
-use network_file::{MOST_BYTES, Net, NetRefusal};
-use no_memory::NoMemory;
+use network_file::{MOST_BYTES, Net, NetFault};
+use no_memory::{NoMemory, Refused};
 use record_fields::{FileRecord, next_record, open_records};
 use std::alloc::Global;
 
 /// The text of a file of the same network, without comments, blank lines and quotes: in format 3 where the file is, and
 /// else in format 2.
-pub fn convert(alloc: Global, bytes: &[u8]) -> Result<Vec<u8>, NetRefusal>
+pub fn convert(alloc: Global, bytes: &[u8]) -> Result<Vec<u8>, Refused<NetFault>>
     requires { length bytes.now ≤ MOST_BYTES }
     ensures text { IfOk result (λ text. text.items ≡ converted bytes.now) }
     ensures same { IfOk result (λ text. SaysTheSame bytes.now text.items) }

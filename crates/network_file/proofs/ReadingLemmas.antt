@@ -1,18 +1,19 @@
 -- The definition of a file's network, by its header and by one record more.
 use Rattle.std.proofs.Common.{ℕ, ◌≡◌, ◌+◌, Some, None, List, [], ◌∷◌, Ok, Err, ◌∙◌, refl}
 use Rattle.std.specs.Prelude.{Result}
-use Rattle.record_fields.specs.Answers.{Answers}
+use Rattle.no_memory.specs.Answers.{Answers, IsRefusal}
 use Rattle.network_file.specs.Draft.{Draft, empty_draft}
 use Rattle.network_file.specs.Formats.{format_of}
 use Rattle.record_fields.specs.FileRecords.{file_records_of}
 use Rattle.network_file.specs.Network.{Network}
 use Rattle.network_file.specs.Reading.{completed, network_in_all, network_of, read_file, read_records}
-use Rattle.network_file.specs.Refused.{IsRefusal, fault_at, refusal_at}
+use Rattle.network_file.specs.Faults.{fault_at, refusal_at}
 use Rattle.network_file.specs.Taking.{take_record}
+use Rattle.record_fields.specs.declared.code.Code.{Code}
 use Rattle.record_fields.specs.declared.code.Code.TheVariants.{NoHeader}
 use Rattle.network_file.specs.declared.fault.NetFault.{NetFault}
-use Rattle.record_fields.specs.declared.record_refusal.RecordRefusal.{RecordRefusal}
-use Rattle.record_fields.specs.declared.record_refusal.RecordRefusal.TheVariants.{Fault, NoMemory}
+use Rattle.no_memory.specs.declared.refused.Refused.{Refused}
+use Rattle.no_memory.specs.declared.refused.Refused.TheVariants.{Fault, NoMemory}
 
 pub network_of-headless : (bytes : List ℕ) → file_records_of bytes ≡ [] → network_of bytes ≡ Err (fault_at 1 NoHeader)
 unfolding network_of read_file
@@ -38,7 +39,7 @@ unfolding read_records
 read_records-taken place draft more fields rest taken = rw taken refl
 
 -- a record that is refused is the answer, unless memory was refused
-pub read_records-refused : (place : ℕ) (draft : Draft) (fields : List (List ℕ)) (rest : List (List (List ℕ))) (refusal : RecordRefusal) (whole : Result Network NetFault)
+pub read_records-refused : (place : ℕ) (draft : Draft) (fields : List (List ℕ)) (rest : List (List (List ℕ))) (refusal : Refused Code) (whole : Result Network NetFault)
     → whole ≡ read_records place draft (fields ∷ rest) → Answers {A = Draft} (Err refusal) (take_record draft fields) → IsRefusal (refusal_at place refusal) whole
 unfolding read_records
 read_records-refused place draft fields rest (Fault code) whole same refused = same ∙ rw refused refl
@@ -49,7 +50,7 @@ pub completed-network : (place : ℕ) (draft : Draft) (net : Network) → networ
 unfolding completed
 completed-network place draft net whole = rw whole refl
 
-pub completed-refused : (place : ℕ) (draft : Draft) (refusal : RecordRefusal) → Answers {A = Network} (Err refusal) (network_in_all draft) → IsRefusal (refusal_at place refusal) (completed place draft)
+pub completed-refused : (place : ℕ) (draft : Draft) (refusal : Refused Code) → Answers {A = Network} (Err refusal) (network_in_all draft) → IsRefusal (refusal_at place refusal) (completed place draft)
 unfolding completed
 completed-refused place draft (Fault code) refused = rw refused refl
 completed-refused place draft NoMemory refused = tt

@@ -3,6 +3,7 @@ pub mod Cells
 pub mod Connectors
 pub mod Cutting
 pub mod Draft
+pub mod Faults
 pub mod Fitting
 pub mod Formats
 pub mod Limits
@@ -10,7 +11,6 @@ pub mod NameIndexing
 pub mod NetView
 pub mod Network
 pub mod Reading
-pub mod Refused
 pub mod Taking
 pub use Rattle.record_fields.specs.Checks
 pub use Rattle.record_fields.specs.FaultCode

@@ -8,7 +8,7 @@ use Rattle.record_fields.specs.Regions.{all_have_regions, region_numbers}
 use Rattle.record_fields.specs.FileRecords.{file_records_of}
 use Rattle.fixed_flow.specs.Limits.{most_parts}
 use Rattle.network_file.specs.Network.{Network, load_of}
-use Rattle.network_file.specs.Refused.{fault_at}
+use Rattle.network_file.specs.Faults.{fault_at}
 use Rattle.network_file.specs.Taking.{take_record}
 use Rattle.record_fields.specs.declared.code.Code.{Code}
 use Rattle.record_fields.specs.declared.code.Code.TheVariants.{NoHeader, NoSteps, NoCells, TooMuch, NoRegion, RegionGap}

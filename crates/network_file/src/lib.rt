@@ -24,7 +24,7 @@ mod records;
 pub use cell::{Cell, Kind};
 pub use connector::Connector;
 pub use cutting::{greatest, has_no_gap};
-pub use fault::{NetFault, NetRefusal};
+pub use fault::NetFault;
 pub use limits::{MOST_BYTES, MOST_CAPACITY, MOST_REGIONS, MOST_ROOM};
 pub use net::Net;
 pub use record_fields::{Code, Name};

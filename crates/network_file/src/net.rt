@@ -1,12 +1,13 @@
 ghost use Rattle.std.specs.Prelude.{◌≡◌, ◌≤◌, Ok, IfErr, IfOk, length};
 ghost use Rattle.network_file.specs.Reading.{network_of};
-ghost use Rattle.network_file.specs.Refused.{IsRefusal};
+ghost use Rattle.no_memory.specs.Answers.{IsRefusal};
 
 use crate::cell::Cell;
 use crate::connector::Connector;
-use crate::fault::NetRefusal;
+use crate::fault::NetFault;
 use crate::limits::MOST_BYTES;
 use crate::reading::read_file;
+use no_memory::Refused;
 use signal_plan::Plan;
 use std::alloc::Global;
 use std::marker::Model;
@@ -44,7 +45,7 @@ impl Model for Net {
 
 impl Net {
     /// Reads the network of a file (docs/FORMAT.md).
-    pub fn read(alloc: Global, bytes: &[u8]) -> Result<Net, NetRefusal>
+    pub fn read(alloc: Global, bytes: &[u8]) -> Result<Net, Refused<NetFault>>
         requires { length bytes.now ≤ MOST_BYTES }
         ensures network { IfOk result (λ net. network_of bytes.now ≡ Ok net) }
         ensures refusal { IfErr result (λ refusal. IsRefusal refusal (network_of bytes.now)) }

@@ -1,6 +1,6 @@
 ghost use Rattle.std.specs.Prelude.{◌≡◌, ◌<◌, ◌≤◌, IfOk, Some, length};
 ghost use Rattle.signal_plan.specs.Counts.{demand_count, limit_count, speed_count, turn_count};
-ghost use Rattle.record_fields.specs.Answers.{Answers, AnswersBy};
+ghost use Rattle.no_memory.specs.Answers.{Answers, AnswersBy};
 ghost use Rattle.record_fields.specs.Fields.{field};
 ghost use Rattle.record_fields.specs.RecordKinds.{record_kind_of};
 ghost use Rattle.network_file.specs.Fitting.{FitsEntry, with_entry};
@@ -18,9 +18,10 @@ use crate::entry::Entry;
 use crate::format::most_records;
 use crate::limits::{MOST_CAPACITY, MOST_REGIONS, MOST_ROOM};
 use fixed_flow::{MOST_PARTS, MOST_RATIO};
+use no_memory::Refused;
 use record_fields::{
-    Code, FileRecord, RecordKind, RecordRefusal, RegionRecord, amount_within, range_within, ratio,
-    weights, whole_within,
+    Code, FileRecord, RecordKind, RegionRecord, amount_within, range_within, ratio, weights,
+    whole_within,
 };
 use signal_plan::{Demand, Limit, MOST_STEPS, Signal, Speed, Turn};
 
@@ -30,7 +31,7 @@ pub(crate) fn take_record(
     bytes: &[u8],
     draft: NetDraft,
     row: &FileRecord,
-) -> Result<NetDraft, RecordRefusal>
+) -> Result<NetDraft, Refused<Code>>
     ensures { Answers result (take_record draft row.now) }
 {
     let entry = read_record(&draft, row)?;
@@ -39,18 +40,18 @@ pub(crate) fn take_record(
 
 /// What a record says, if the draft can take it.
 #[tactic(auto, unfolding(crate::specs::Taking::take_record))]
-fn read_record(draft: &NetDraft, row: &FileRecord) -> Result<Entry, RecordRefusal>
+fn read_record(draft: &NetDraft, row: &FileRecord) -> Result<Entry, Refused<Code>>
     ensures answer { AnswersBy result (with_entry draft.now) (take_record draft.now row.now) }
     ensures fits { IfOk result (FitsEntry draft.now) }
 {
     let Some(kind) = RecordKind::named(draft.format, row.field(0)) else {
-        return Err(RecordRefusal::Fault(Code::BadKind));
+        return Err(Refused::Fault(Code::BadKind));
     };
     if row.len() != kind.field_count() {
-        return Err(RecordRefusal::Fault(Code::BadCount));
+        return Err(Refused::Fault(Code::BadCount));
     }
     if draft.taken_before(kind) >= most_records(draft.format) {
-        return Err(RecordRefusal::Fault(Code::TooMany));
+        return Err(Refused::Fault(Code::TooMany));
     }
     read_of_kind(kind, draft, row)
 }
@@ -60,7 +61,7 @@ fn read_of_kind(
     kind: RecordKind,
     draft: &NetDraft,
     row: &FileRecord,
-) -> Result<Entry, RecordRefusal>
+) -> Result<Entry, Refused<Code>>
     requires of { record_kind_of draft.now.format (field row.now 0) ≡ Some kind }
     requires room { taken_before kind draft.now < most_records draft.now.format }
     ensures answer { AnswersBy result (with_entry draft.now) (take_kind kind draft.now row.now) }
@@ -84,19 +85,19 @@ fn read_of_kind(
 }
 
 #[tactic(auto, unfolding(crate::specs::Taking::take_steps))]
-fn read_steps(draft: &NetDraft, row: &FileRecord) -> Result<Entry, RecordRefusal>
+fn read_steps(draft: &NetDraft, row: &FileRecord) -> Result<Entry, Refused<Code>>
     ensures answer { AnswersBy result (with_entry draft.now) (take_steps draft.now row.now) }
     ensures fits { IfOk result (FitsEntry draft.now) }
 {
     if draft.steps.is_some() {
-        return Err(RecordRefusal::Fault(Code::Repeated));
+        return Err(Refused::Fault(Code::Repeated));
     }
     let steps = whole_within(1, MOST_STEPS, row.field(1))?;
     Ok(Entry::Steps(steps))
 }
 
 #[tactic(auto, unfolding(crate::specs::Taking::take_road))]
-fn read_road(draft: &NetDraft, row: &FileRecord) -> Result<Entry, RecordRefusal>
+fn read_road(draft: &NetDraft, row: &FileRecord) -> Result<Entry, Refused<Code>>
     requires { length draft.now.cells < most_records draft.now.format }
     ensures answer { AnswersBy result (with_entry draft.now) (take_road draft.now row.now) }
     ensures fits { IfOk result (FitsEntry draft.now) }
@@ -112,7 +113,7 @@ fn read_road(draft: &NetDraft, row: &FileRecord) -> Result<Entry, RecordRefusal>
 }
 
 #[tactic(auto, unfolding(crate::specs::Taking::take_gate))]
-fn read_gate(draft: &NetDraft, row: &FileRecord) -> Result<Entry, RecordRefusal>
+fn read_gate(draft: &NetDraft, row: &FileRecord) -> Result<Entry, Refused<Code>>
     requires { length draft.now.cells < most_records draft.now.format }
     ensures answer { AnswersBy result (with_entry draft.now) (take_gate draft.now row.now) }
     ensures fits { IfOk result (FitsEntry draft.now) }
@@ -126,7 +127,7 @@ fn read_gate(draft: &NetDraft, row: &FileRecord) -> Result<Entry, RecordRefusal>
 }
 
 #[tactic(auto, unfolding(crate::specs::Taking::take_exit))]
-fn read_exit(draft: &NetDraft, row: &FileRecord) -> Result<Entry, RecordRefusal>
+fn read_exit(draft: &NetDraft, row: &FileRecord) -> Result<Entry, Refused<Code>>
     requires { length draft.now.cells < most_records draft.now.format }
     ensures answer { AnswersBy result (with_entry draft.now) (take_exit draft.now row.now) }
     ensures fits { IfOk result (FitsEntry draft.now) }
@@ -142,7 +143,7 @@ fn read_exit(draft: &NetDraft, row: &FileRecord) -> Result<Entry, RecordRefusal>
 }
 
 #[tactic(auto, unfolding(crate::specs::Taking::take_link))]
-fn read_link(draft: &NetDraft, row: &FileRecord) -> Result<Entry, RecordRefusal>
+fn read_link(draft: &NetDraft, row: &FileRecord) -> Result<Entry, Refused<Code>>
     requires { length draft.now.connectors < most_records draft.now.format }
     ensures answer { AnswersBy result (with_entry draft.now) (take_link draft.now row.now) }
     ensures fits { IfOk result (FitsEntry draft.now) }
@@ -153,7 +154,7 @@ fn read_link(draft: &NetDraft, row: &FileRecord) -> Result<Entry, RecordRefusal>
 }
 
 #[tactic(auto, unfolding(crate::specs::Taking::take_merge))]
-fn read_merge(draft: &NetDraft, row: &FileRecord) -> Result<Entry, RecordRefusal>
+fn read_merge(draft: &NetDraft, row: &FileRecord) -> Result<Entry, Refused<Code>>
     requires { length draft.now.connectors < most_records draft.now.format }
     ensures answer { AnswersBy result (with_entry draft.now) (take_merge draft.now row.now) }
     ensures fits { IfOk result (FitsEntry draft.now) }
@@ -172,7 +173,7 @@ fn read_merge(draft: &NetDraft, row: &FileRecord) -> Result<Entry, RecordRefusal
 }
 
 #[tactic(auto, unfolding(crate::specs::Taking::take_diverge))]
-fn read_diverge(draft: &NetDraft, row: &FileRecord) -> Result<Entry, RecordRefusal>
+fn read_diverge(draft: &NetDraft, row: &FileRecord) -> Result<Entry, Refused<Code>>
     requires { length draft.now.connectors < most_records draft.now.format }
     ensures answer { AnswersBy result (with_entry draft.now) (take_diverge draft.now row.now) }
     ensures fits { IfOk result (FitsEntry draft.now) }
@@ -191,7 +192,7 @@ fn read_diverge(draft: &NetDraft, row: &FileRecord) -> Result<Entry, RecordRefus
 }
 
 #[tactic(auto, unfolding(crate::specs::Taking::take_signal))]
-fn read_signal(draft: &NetDraft, row: &FileRecord) -> Result<Entry, RecordRefusal>
+fn read_signal(draft: &NetDraft, row: &FileRecord) -> Result<Entry, Refused<Code>>
     ensures answer { AnswersBy result (with_entry draft.now) (take_signal draft.now row.now) }
     ensures fits { IfOk result (FitsEntry draft.now) }
 {
@@ -209,7 +210,7 @@ fn read_signal(draft: &NetDraft, row: &FileRecord) -> Result<Entry, RecordRefusa
 }
 
 #[tactic(auto, unfolding(crate::specs::Taking::take_limit))]
-fn read_limit(draft: &NetDraft, row: &FileRecord) -> Result<Entry, RecordRefusal>
+fn read_limit(draft: &NetDraft, row: &FileRecord) -> Result<Entry, Refused<Code>>
     requires { limit_count draft.now.plan < most_records draft.now.format }
     ensures answer { AnswersBy result (with_entry draft.now) (take_limit draft.now row.now) }
     ensures fits { IfOk result (FitsEntry draft.now) }
@@ -226,7 +227,7 @@ fn read_limit(draft: &NetDraft, row: &FileRecord) -> Result<Entry, RecordRefusal
 }
 
 #[tactic(auto, unfolding(crate::specs::Taking::take_demand))]
-fn read_demand(draft: &NetDraft, row: &FileRecord) -> Result<Entry, RecordRefusal>
+fn read_demand(draft: &NetDraft, row: &FileRecord) -> Result<Entry, Refused<Code>>
     requires { demand_count draft.now.plan < most_records draft.now.format }
     ensures answer { AnswersBy result (with_entry draft.now) (take_demand draft.now row.now) }
     ensures fits { IfOk result (FitsEntry draft.now) }
@@ -243,7 +244,7 @@ fn read_demand(draft: &NetDraft, row: &FileRecord) -> Result<Entry, RecordRefusa
 }
 
 #[tactic(auto, unfolding(crate::specs::Taking::take_turn))]
-fn read_turn(draft: &NetDraft, row: &FileRecord) -> Result<Entry, RecordRefusal>
+fn read_turn(draft: &NetDraft, row: &FileRecord) -> Result<Entry, Refused<Code>>
     requires room { turn_count draft.now.plan < most_records draft.now.format }
     requires second_format { 2 ≤ draft.now.format }
     ensures answer { AnswersBy result (with_entry draft.now) (take_turn draft.now row.now) }
@@ -262,7 +263,7 @@ fn read_turn(draft: &NetDraft, row: &FileRecord) -> Result<Entry, RecordRefusal>
 }
 
 #[tactic(auto, unfolding(crate::specs::Taking::take_region))]
-fn read_region(draft: &NetDraft, row: &FileRecord) -> Result<Entry, RecordRefusal>
+fn read_region(draft: &NetDraft, row: &FileRecord) -> Result<Entry, Refused<Code>>
     requires { 2 ≤ draft.now.format }
     ensures answer { AnswersBy result (with_entry draft.now) (take_region draft.now row.now) }
     ensures fits { IfOk result (FitsEntry draft.now) }
@@ -273,7 +274,7 @@ fn read_region(draft: &NetDraft, row: &FileRecord) -> Result<Entry, RecordRefusa
 }
 
 #[tactic(auto, unfolding(crate::specs::Taking::take_speed))]
-fn read_speed(draft: &NetDraft, row: &FileRecord) -> Result<Entry, RecordRefusal>
+fn read_speed(draft: &NetDraft, row: &FileRecord) -> Result<Entry, Refused<Code>>
     requires room { speed_count draft.now.plan < most_records draft.now.format }
     requires third_format { 3 ≤ draft.now.format }
     ensures answer { AnswersBy result (with_entry draft.now) (take_speed draft.now row.now) }

@@ -1,4 +1,3 @@
-pub mod Answers
 pub mod CellName
 pub mod Checks
 pub mod FaultCode

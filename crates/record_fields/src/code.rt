@@ -1,6 +1,8 @@
 ghost use Rattle.std.specs.Prelude.{◌≡◌};
 ghost use Rattle.record_fields.specs.FaultCode.{code_name, code_number};
 
+use no_memory::Refused;
+
 /// Why a record, or the file as a whole, is no network. docs/FORMAT.md says when each comes.
 #[derive(Clone, Copy, Debug, PartialEq, Eq)]
 pub enum Code {
@@ -89,5 +91,15 @@ impl Code {
             Code::NoRegion => "NoRegion",
             Code::RegionGap => "RegionGap",
         }
+    }
+}
+
+impl From<Code> for Refused<Code> {
+    ghost use Rattle.no_memory.specs.declared.refused.Refused.TheVariants.{Fault};
+
+    ghost from_gives = { λ code refusal. refusal ≡ Fault code };
+
+    fn from(code: Code) -> Refused<Code> {
+        Refused::Fault(code)
     }
 }

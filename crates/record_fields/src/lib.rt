@@ -2,8 +2,7 @@
 //! why one is refused (docs/FORMAT.md).
 //!
 //! `file_records` reads a file (`csv`) as `file_record`s. `record_kind` has their kinds, `fields` their numbers, `name` the
-//! names of cells, `code` and `record_refusal` their faults. `marks` is a set of cell numbers, and `region_table` has the
-//! region records so far.
+//! names of cells, `code` their faults. `marks` is a set of cell numbers, and `region_table` has the region records so far.
 #![tactic(auto)]
 
 mod code;
@@ -13,7 +12,6 @@ mod file_records;
 mod marks;
 mod name;
 mod record_kind;
-mod record_refusal;
 mod region_record;
 mod region_table;
 
@@ -24,6 +22,5 @@ pub use file_records::{next_record, open_records};
 pub use marks::Marks;
 pub use name::Name;
 pub use record_kind::RecordKind;
-pub use record_refusal::RecordRefusal;
 pub use region_record::RegionRecord;
 pub use region_table::RegionTable;

@@ -5,7 +5,7 @@ use Rattle.std.proofs.lemmas.Bool.{le-leb, le-ltb, lt-leb, lt-ltb}
 use Rattle.std.proofs.lemmas.List.{drop_all, drop_more, map_push, take_all, take_more}
 use Rattle.network_file.specs.Network.{Network}
 use Rattle.network_file.specs.Reading.{network_of}
-use Rattle.network_file.specs.Refused.{IsRefusal}
+use Rattle.network_file.specs.Faults.{IsRefusal}
 use Rattle.network_file.specs.declared.fault.NetFault.{NetFault}
 use Rattle.network_file.specs.declared.fault.NetRefusal.{NetRefusal}
 use Rattle.network_file.specs.declared.fault.NetRefusal.TheVariants as of_net

@@ -8,14 +8,14 @@ use Rattle.network_file.proofs.reading.read_all.Goals as goal
 pub returns-then-not-branch-clause-refusal : goal.returns-then-not-branch-clause-refusal
 returns-then-not-branch-clause-refusal c =
     let left = sym c.requires.left in
-    rw c.at.ensures (network_of-headless c.args.bytes.now (left ∙ c.in_ok-next_record.ensures.end c.if-not-branch.true))
+    (network_of-headless c.args.bytes.now (left ∙ c.in_ok-next_record.ensures.end c.if-not-branch.true))
 
 pub returns-in_default-clause-refusal : goal.returns-in_default-clause-refusal
 returns-in_default-clause-refusal c =
     let rest = records_left c.next_record.new.reader in
     let all : file_records_of c.args.bytes.now ≡ c.next_record.new.row ∷ rest =
     sym c.requires.left ∙ c.in_ok-next_record.ensures.found c.if-not-branch.false in
-    rw c.at-in_default.ensures (network_of-misheaded c.args.bytes.now c.next_record.new.row rest all (search rules))
+    (network_of-misheaded c.args.bytes.now c.next_record.new.row rest all (search rules))
 
 pub read_later-requires-clause-reading : goal.read_later-requires-clause-reading
 read_later-requires-clause-reading c = c.in_ok-next_record.ensures.reading c.if-not-branch.false

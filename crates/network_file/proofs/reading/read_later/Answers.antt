@@ -12,7 +12,7 @@ pub returns-in-Err-clause-refusal : goal.returns-in-Err-clause-refusal
 returns-in-Err-clause-refusal c =
     let rest = records_left c.next_record.new.reader in
     let next = c.in_ok-next_record.ensures.found c.if-branch.true in
-    rw c.of_record.ensures (read_records-refused c.loop-draft.place c.loop-draft.draft c.next_record.new.row rest c.in-Err.refusal
+    rw c.refusal_at.ensures (read_records-refused c.loop-draft.place c.loop-draft.draft c.next_record.new.row rest c.in-Err.refusal
     (read_records 2 c.args.draft (records_left c.args.records.now)) (rw next at c.loop-draft.invariant.same) c.in-Err.ensures)
 
 pub loop-draft-preserved : goal.loop-draft-preserved
@@ -38,4 +38,4 @@ returns-in-Ok-complete-clause-network c =
 pub returns-in-Err-complete-clause-refusal : goal.returns-in-Err-complete-clause-refusal
 returns-in-Err-complete-clause-refusal c =
     let whole = completes _ c.loop-draft.place c.loop-draft.draft _ c.loop-draft.invariant.same (c.in_ok-next_record.ensures.end c.if-branch.false) in
-    rw (c.of_record-in-Err-complete.ensures, whole) (completed-refused c.loop-draft.place c.loop-draft.draft c.in-Err-complete.refusal c.in-Err-complete.ensures)
+    rw (c.refusal_at-in-Err-complete.ensures, whole) (completed-refused c.loop-draft.place c.loop-draft.draft c.in-Err-complete.refusal c.in-Err-complete.ensures)
