@@ -1,20 +1,20 @@
--- What the cell that is read answers is what the plan says.
+-- What the cell that is read answers, as a plan of its own, is what the plan says.
 use Rattle.std.specs.Prelude.{◌==◌, not}
-use Rattle.std.proofs.Common.{◌≡◌, ℕ, ◌<◌, length, get_or, ap, sym, ◌∙◌}
-use Rattle.signal_plan.specs.Capacity.{capacity_at, own_capacity}
-use Rattle.signal_plan.specs.Demand.{demand_at, own_demand}
+use Rattle.std.proofs.Common.{◌≡◌, ℕ, ◌<◌, length, get_or, ap}
+use Rattle.signal_plan.specs.Alone.{alone}
+use Rattle.signal_plan.specs.Capacity.{capacity_at}
+use Rattle.signal_plan.specs.Demand.{demand_at}
 use Rattle.signal_plan.specs.Green.{green_at, is_green_by, signal_of}
 use Rattle.signal_plan.specs.Records.{PlannedCell, PlanRecords}
-use Rattle.signal_plan.specs.Speeds.{has_speeds, own_speed, speed_at}
-use Rattle.signal_plan.specs.Total.{demand_from, own_demand_from}
-use Rattle.signal_plan.specs.Turning.{own_shares, shares_at}
+use Rattle.signal_plan.specs.Speeds.{has_speeds, speed_at}
+use Rattle.signal_plan.specs.Total.{demand_from}
+use Rattle.signal_plan.specs.Turning.{shares_at}
 use Rattle.signal_plan.proofs.Planned.{planned_read}
-use Rattle.signal_plan.proofs.Totals.{demand_from_is}
 
 pub capacity_read : (plan : PlanRecords) (cell t : ℕ) (c : PlannedCell) → cell < length plan.cells → c ≡ get_or plan.cells cell c →
-    own_capacity c t ≡ capacity_at plan cell t
+    capacity_at (alone c) 0 t ≡ capacity_at plan cell t
 unfolding capacity_at
-capacity_read plan cell t c has read = ap (λ (p : PlannedCell). own_capacity p t) (planned_read plan cell c has read)
+capacity_read plan cell t c has read = ap (λ (p : PlannedCell). capacity_at (alone p) 0 t) (planned_read plan cell c has read)
 
 pub signal_read : (plan : PlanRecords) (cell : ℕ) (c : PlannedCell) → cell < length plan.cells → c ≡ get_or plan.cells cell c →
     c.records.signal ≡ signal_of plan cell
@@ -27,24 +27,24 @@ unfolding green_at signal_of
 green_read plan cell t c has read = ap (λ (p : PlannedCell). is_green_by p.records.signal t) (planned_read plan cell c has read)
 
 pub demand_read : (plan : PlanRecords) (cell t : ℕ) (c : PlannedCell) → cell < length plan.cells → c ≡ get_or plan.cells cell c →
-    own_demand c.records t ≡ demand_at plan cell t
+    demand_at (alone c) 0 t ≡ demand_at plan cell t
 unfolding demand_at
-demand_read plan cell t c has read = ap (λ (p : PlannedCell). own_demand p.records t) (planned_read plan cell c has read)
+demand_read plan cell t c has read = ap (λ (p : PlannedCell). demand_at (alone p) 0 t) (planned_read plan cell c has read)
 
 pub demand_from_read : (plan : PlanRecords) (cell t end : ℕ) (c : PlannedCell) → cell < length plan.cells → c ≡ get_or plan.cells cell c →
-    own_demand_from c.records t end ≡ demand_from plan cell t end
-demand_from_read plan cell t end c has read =
-    ap (λ (p : PlannedCell). own_demand_from p.records t end) (planned_read plan cell c has read) ∙ sym (demand_from_is plan cell t end)
+    demand_from (alone c) 0 t end ≡ demand_from plan cell t end
+unfolding demand_from demand_at
+demand_from_read plan cell t end c has read = ap (λ (p : PlannedCell). demand_from (alone p) 0 t end) (planned_read plan cell c has read)
 
 pub shares_read : (plan : PlanRecords) (cell t : ℕ) (own : ℕ × ℕ) (c : PlannedCell) → cell < length plan.cells → c ≡ get_or plan.cells cell c →
-    own_shares c.records t own ≡ shares_at plan cell t own
+    shares_at (alone c) 0 t own ≡ shares_at plan cell t own
 unfolding shares_at
-shares_read plan cell t own c has read = ap (λ (p : PlannedCell). own_shares p.records t own) (planned_read plan cell c has read)
+shares_read plan cell t own c has read = ap (λ (p : PlannedCell). shares_at (alone p) 0 t own) (planned_read plan cell c has read)
 
 pub speed_read : (plan : PlanRecords) (cell t : ℕ) (c : PlannedCell) → cell < length plan.cells → c ≡ get_or plan.cells cell c →
-    own_speed c.records t ≡ speed_at plan cell t
+    speed_at (alone c) 0 t ≡ speed_at plan cell t
 unfolding speed_at
-speed_read plan cell t c has read = ap (λ (p : PlannedCell). own_speed p.records t) (planned_read plan cell c has read)
+speed_read plan cell t c has read = ap (λ (p : PlannedCell). speed_at (alone p) 0 t) (planned_read plan cell c has read)
 
 pub has_speeds_read : (plan : PlanRecords) (cell : ℕ) (c : PlannedCell) → cell < length plan.cells → c ≡ get_or plan.cells cell c →
     not (length c.records.speeds == 0) ≡ has_speeds plan cell

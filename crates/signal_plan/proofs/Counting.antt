@@ -1,11 +1,11 @@
 -- The counts of a plan with one more cell or record.
-use Rattle.std.specs.Prelude.{is_some, if◌then◌else◌, slice_set, sum_by}
-use Rattle.std.proofs.Common.{◌≡◌, ℕ, false, ◌+◌, ◌<◌, length, arith, add-zero, refl}
+use Rattle.std.specs.Prelude.{Some, is_some, if◌then◌else◌, slice_set, sum_by}
+use Rattle.std.proofs.Common.{◌≡◌, ℕ, false, ◌+◌, ◌<◌, [], ◌∷◌, ◌++◌, length, arith, add-zero, refl}
 use Rattle.std.proofs.lemmas.List.{length_push}
 use Rattle.std.proofs.lemmas.List.Sums.{sum_by-set, sum_by_push}
-use Rattle.signal_plan.specs.Counts.{counts_of, demand_count, limit_count, signal_count, speed_count, turn_count}
-use Rattle.signal_plan.specs.Green.{is_signalled, signal_of}
-use Rattle.signal_plan.specs.Records.{CellRecords, DemandRecord, LimitRecord, PlannedCell, PlanRecords, SignalRecord, SpeedRecord, TurnRecord, bare_cell, planned_at, records_at, with_cell, with_demand, with_limit, with_own_demand, with_own_limit, with_own_signal, with_own_speed, with_own_turn, with_records, with_signal, with_speed, with_turn}
+use Rattle.signal_plan.specs.Counts.{counts_of}
+use Rattle.signal_plan.specs.Green.{signal_of}
+use Rattle.signal_plan.specs.Records.{CellRecords, DemandRecord, LimitRecord, PlannedCell, PlanRecords, SignalRecord, SpeedRecord, TurnRecord, bare_cell, planned_at, records_at, with_cell, with_demand, with_limit, with_records, with_signal, with_speed, with_turn}
 
 -- a sum over the cells grows as the term of the cell that changes
 sum_by-with_records : (f : PlannedCell → ℕ) (plan : PlanRecords) (cell : ℕ) (own : CellRecords) (more : ℕ) → cell < length plan.cells →
@@ -34,18 +34,21 @@ abbrev speeds_of : PlannedCell → ℕ
 speeds_of cell = length cell.records.speeds
 
 -- with other records of a cell, of which there are so many more
-counts_of-with_records : (plan : PlanRecords) (cell : ℕ) (own : CellRecords) (signals limits demands turns speeds : ℕ) → cell < length plan.cells →
-    own_signals own ≡ own_signals (records_at plan cell) + signals → length own.limits ≡ length (records_at plan cell).limits + limits →
-    length own.demands ≡ length (records_at plan cell).demands + demands → length own.turns ≡ length (records_at plan cell).turns + turns →
-    length own.speeds ≡ length (records_at plan cell).speeds + speeds →
-    counts_of (with_records plan cell own) ≡ record {
-      signals = signal_count plan + signals;
-      limits = limit_count plan + limits;
-      demands = demand_count plan + demands;
-      turns = turn_count plan + turns;
-      speeds = speed_count plan + speeds;
+counts_of-with_records : (plan : PlanRecords) (cell : ℕ) (added : CellRecords → CellRecords) (signals limits demands turns speeds : ℕ) →
+    cell < length plan.cells → own_signals (added (records_at plan cell)) ≡ own_signals (records_at plan cell) + signals →
+    length (added (records_at plan cell)).limits ≡ length (records_at plan cell).limits + limits →
+    length (added (records_at plan cell)).demands ≡ length (records_at plan cell).demands + demands →
+    length (added (records_at plan cell)).turns ≡ length (records_at plan cell).turns + turns →
+    length (added (records_at plan cell)).speeds ≡ length (records_at plan cell).speeds + speeds →
+    counts_of (with_records plan cell added) ≡ record {
+      signals = (counts_of plan).signals + signals;
+      limits = (counts_of plan).limits + limits;
+      demands = (counts_of plan).demands + demands;
+      turns = (counts_of plan).turns + turns;
+      speeds = (counts_of plan).speeds + speeds;
     }
-counts_of-with_records plan cell own signals limits demands turns speeds has more_signals more_limits more_demands more_turns more_speeds =
+counts_of-with_records plan cell added signals limits demands turns speeds has more_signals more_limits more_demands more_turns more_speeds =
+    let own = added (records_at plan cell) in
     rw (
       sum_by-with_records signals_of plan cell own signals has more_signals,
       sum_by-with_records limits_of plan cell own limits has more_limits,
@@ -55,41 +58,41 @@ counts_of-with_records plan cell own signals limits demands turns speeds has mor
     )
 
 -- one more record of a kind
-pub counts_of-with_signal : (plan : PlanRecords) (signal : SignalRecord) → signal.cell < length plan.cells → is_signalled plan signal.cell ≡ false →
-    counts_of (with_signal plan signal) ≡ record (counts_of plan) { signals = signal_count plan + 1 }
+pub counts_of-with_signal : (plan : PlanRecords) (signal : SignalRecord) → signal.cell < length plan.cells → is_some (signal_of plan signal.cell) ≡ false →
+    counts_of (with_signal plan signal) ≡ record (counts_of plan) { signals = (counts_of plan).signals + 1 }
 unfolding signal_of
 counts_of-with_signal plan signal has none =
     let own = records_at plan signal.cell in
     let before : own_signals own ≡ 0 = rw none refl in
-    rw (counts_of-with_records plan signal.cell (with_own_signal own signal) 1 0 0 0 0 has (omega (arith, before)) (omega arith) (omega arith) (omega arith) (omega arith))
+    rw (counts_of-with_records plan signal.cell (λ own. record own { signal = Some signal }) 1 0 0 0 0 has (omega (arith, before)) (omega arith) (omega arith) (omega arith) (omega arith))
     (simp add-zero)
 
 pub counts_of-with_limit : (plan : PlanRecords) (limit : LimitRecord) → limit.cell < length plan.cells →
-    counts_of (with_limit plan limit) ≡ record (counts_of plan) { limits = limit_count plan + 1 }
+    counts_of (with_limit plan limit) ≡ record (counts_of plan) { limits = (counts_of plan).limits + 1 }
 counts_of-with_limit plan limit has =
     let own = records_at plan limit.cell in
-    rw (counts_of-with_records plan limit.cell (with_own_limit own limit) 0 1 0 0 0 has (omega arith) (length_push own.limits limit) (omega arith) (omega arith) (omega arith))
+    rw (counts_of-with_records plan limit.cell (λ own. record own { limits = own.limits ++ limit ∷ [] }) 0 1 0 0 0 has (omega arith) (length_push own.limits limit) (omega arith) (omega arith) (omega arith))
     (simp add-zero)
 
 pub counts_of-with_demand : (plan : PlanRecords) (demand : DemandRecord) → demand.cell < length plan.cells →
-    counts_of (with_demand plan demand) ≡ record (counts_of plan) { demands = demand_count plan + 1 }
+    counts_of (with_demand plan demand) ≡ record (counts_of plan) { demands = (counts_of plan).demands + 1 }
 counts_of-with_demand plan demand has =
     let own = records_at plan demand.cell in
-    rw (counts_of-with_records plan demand.cell (with_own_demand own demand) 0 0 1 0 0 has (omega arith) (omega arith) (length_push own.demands demand) (omega arith) (omega arith))
+    rw (counts_of-with_records plan demand.cell (λ own. record own { demands = own.demands ++ demand ∷ [] }) 0 0 1 0 0 has (omega arith) (omega arith) (length_push own.demands demand) (omega arith) (omega arith))
     (simp add-zero)
 
 pub counts_of-with_turn : (plan : PlanRecords) (turn : TurnRecord) → turn.cell < length plan.cells →
-    counts_of (with_turn plan turn) ≡ record (counts_of plan) { turns = turn_count plan + 1 }
+    counts_of (with_turn plan turn) ≡ record (counts_of plan) { turns = (counts_of plan).turns + 1 }
 counts_of-with_turn plan turn has =
     let own = records_at plan turn.cell in
-    rw (counts_of-with_records plan turn.cell (with_own_turn own turn) 0 0 0 1 0 has (omega arith) (omega arith) (omega arith) (length_push own.turns turn) (omega arith))
+    rw (counts_of-with_records plan turn.cell (λ own. record own { turns = own.turns ++ turn ∷ [] }) 0 0 0 1 0 has (omega arith) (omega arith) (omega arith) (length_push own.turns turn) (omega arith))
     (simp add-zero)
 
 pub counts_of-with_speed : (plan : PlanRecords) (speed : SpeedRecord) → speed.cell < length plan.cells →
-    counts_of (with_speed plan speed) ≡ record (counts_of plan) { speeds = speed_count plan + 1 }
+    counts_of (with_speed plan speed) ≡ record (counts_of plan) { speeds = (counts_of plan).speeds + 1 }
 counts_of-with_speed plan speed has =
     let own = records_at plan speed.cell in
-    rw (counts_of-with_records plan speed.cell (with_own_speed own speed) 0 0 0 0 1 has (omega arith) (omega arith) (omega arith) (omega arith) (length_push own.speeds speed))
+    rw (counts_of-with_records plan speed.cell (λ own. record own { speeds = own.speeds ++ speed ∷ [] }) 0 0 0 0 1 has (omega arith) (omega arith) (omega arith) (omega arith) (length_push own.speeds speed))
     (simp add-zero)
 
 -- a cell that comes brings none

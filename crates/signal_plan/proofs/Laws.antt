@@ -1,7 +1,6 @@
 -- What callers may know of a plan's capacities, turning shares, speeds, demands and totals.
 use Rattle.std.specs.Prelude.{All, Bool, ◌==◌, not, reverse, if◌then◌else◌}
 use Rattle.std.specs.List.{range_with_len}
-use Rattle.std.specs.Option.{option_map_or}
 use Rattle.std.proofs.Common.{◌≡◌, ℕ, suc, true, false, zero-add, ◌+◌, ◌-◌, ◌*◌, ◌<◌, ◌≤◌, List, [], ◌∷◌, length, get_or, inl, inr, arith, refl, ap, sym, subst, ◌∙◌}
 use Rattle.std.proofs.Math.Nat.{div-le_of_le-mul, mul_comm, mul-div_left, mul-le-mul, mul-le-mul_left, mul-le-mul_right}
 use Rattle.std.proofs.lemmas.Bool.{cases_lt, eqb-true}
@@ -14,14 +13,15 @@ use Rattle.signal_plan.specs.Limits.{most_records}
 use Rattle.signal_plan.specs.Records.{CellRecords, DemandRecord, PlannedCell, PlanRecords, SpeedRecord, bare_cell, in_range, planned_at, records_at}
 use Rattle.signal_plan.specs.Sound.{AreSound, IsSoundDemand, IsSoundPlan}
 use Rattle.signal_plan.specs.Capacity.{capacity_at}
-use Rattle.signal_plan.specs.Demand.{brings, demand_at}
-use Rattle.signal_plan.specs.Total.{demand_from, own_demand_from, total_demand}
-use Rattle.signal_plan.specs.Speeds.{IsSpeed, arriving, has_speeds, last_speed, speed_at}
+use Rattle.signal_plan.specs.Last.{last_said}
+use Rattle.signal_plan.specs.Demand.{demand_at}
+use Rattle.signal_plan.specs.Total.{demand_from, total_demand}
+use Rattle.signal_plan.specs.Speeds.{IsSpeed, arriving, has_speeds, speed_at}
 use Rattle.signal_plan.specs.Turning.{shares_at}
 use Rattle.signal_plan.proofs.Sums.{sum_by_range_split, sum_by-le-times}
 use Rattle.signal_plan.proofs.Planned.{records_at-all, records_at-past}
 use Rattle.signal_plan.proofs.Searches.{All-reverse, find-has}
-use Rattle.signal_plan.proofs.Totals.{brought, brought_to, own_demand_from_sum, total_demand_is}
+use Rattle.signal_plan.proofs.Totals.{brings, brought, brought_to, demand_from_sum, total_demand_is}
 
 pub capacity_at-le : (plan : PlanRecords) (cell t most : ℕ) → (planned_at plan cell).capacity ≤ most →
     All (λ limit. limit.capacity ≤ most) (records_at plan cell).limits → capacity_at plan cell t ≤ most
@@ -62,7 +62,7 @@ speed_at-none plan cell t none = by (records_at plan cell).speeds (eqb-true (len
     is_zero true e = refl
     is_zero false e = cc e
 
-    by : (speeds : List SpeedRecord) → length speeds ≡ 0 → ◌≡◌ {A = ℕ × ℕ} (option_map_or (λ speed. (speed.num, speed.den)) (last_speed speeds t) (1, 1)) (1, 1)
+    by : (speeds : List SpeedRecord) → length speeds ≡ 0 → ◌≡◌ {A = ℕ × ℕ} (last_said (λ speed. in_range speed.from speed.to t) (λ speed. (speed.num, speed.den)) speeds (1, 1)) (1, 1)
     by [] e = refl
     by (speed ∷ speeds) e = absurd (omega (arith, e))
 
@@ -160,15 +160,15 @@ demand_from-le-total_demand plan cell steps has =
     )
 
 -- what enters a cell in the steps below `steps`, by the number of its records
-brought_to-le : (steps cell : ℕ) (own : CellRecords) → AreSound cell own → own_demand_from own 0 steps ≤ length own.demands * (most_parts * steps)
-brought_to-le steps cell own sound =
-    let each : (d : DemandRecord) → (d.cell ≡ cell) × IsSoundDemand d → brought 0 steps d ≤ most_parts * steps =
+brought_to-le : (steps i : ℕ) (cell : PlannedCell) → AreSound i cell.records → brought_to steps cell ≤ length cell.records.demands * (most_parts * steps)
+brought_to-le steps i cell sound =
+    let each : (d : DemandRecord) → (d.cell ≡ i) × IsSoundDemand d → brought 0 steps d ≤ most_parts * steps =
     λ d fits. mul-le-mul fits.1.amount (omega arith) in
     omega (
       arith,
-      own_demand_from_sum own 0 steps,
-      sum_by-le (brought 0 steps) (most_parts * steps) own.demands (
-          All-weaker (λ (d : DemandRecord). (d.cell ≡ cell) × IsSoundDemand d) (λ d. brought 0 steps d ≤ most_parts * steps) each own.demands sound.demands
+      demand_from_sum cell 0 steps,
+      sum_by-le (brought 0 steps) (most_parts * steps) cell.records.demands (
+          All-weaker (λ (d : DemandRecord). (d.cell ≡ i) × IsSoundDemand d) (λ d. brought 0 steps d ≤ most_parts * steps) each cell.records.demands sound.demands
           ),
     )
 
@@ -179,6 +179,6 @@ total_demand-le plan steps sound = omega (
   sum_by-le-times (brought_to steps) (λ c. length c.records.demands) (most_parts * steps) plan.cells (λ k d there.
       let here = get_or_default plan.cells k d (bare_cell 0) there in
       subst (λ (c : PlannedCell). brought_to steps c ≤ length c.records.demands * (most_parts * steps)) (sym here)
-      (brought_to-le steps k (records_at plan k) (sound.records k there))),
+      (brought_to-le steps k (planned_at plan k) (sound.records k there))),
   mul-le-mul_right (most_parts * steps) sound.few_demands,
 )

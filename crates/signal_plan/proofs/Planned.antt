@@ -25,16 +25,18 @@ records_at-all P plan cell each none = elim (cases_lt cell (length plan.cells)) 
 -- the cell that was read, with its records changed
 pub with_records-read : (plan : PlanRecords) (cell : ℕ) (added : CellRecords → CellRecords) (c more : PlannedCell) → cell < length plan.cells →
     c ≡ get_or plan.cells cell c → more ≡ record c { records = added c.records } →
-    slice_set plan.cells cell more ≡ (with_records plan cell (added (records_at plan cell))).cells
+    slice_set plan.cells cell more ≡ (with_records plan cell added).cells
 with_records-read plan cell added c more has read changed =
     ap (slice_set plan.cells cell) (changed ∙ ap (λ (p : PlannedCell). record p { records = added p.records }) (planned_read plan cell c has read))
 
-pub records_at-with_same : (plan : PlanRecords) (cell : ℕ) (own : CellRecords) → cell < length plan.cells →
-    records_at (with_records plan cell own) cell ≡ own
-records_at-with_same plan cell own has =
-    ap (λ (p : PlannedCell). p.records) (get_or-set_same plan.cells cell (record (planned_at plan cell) { records = own }) (bare_cell 0) has)
+pub records_at-with_same : (plan : PlanRecords) (cell : ℕ) (added : CellRecords → CellRecords) → cell < length plan.cells →
+    records_at (with_records plan cell added) cell ≡ added (records_at plan cell)
+records_at-with_same plan cell added has =
+    ap (λ (p : PlannedCell). p.records)
+    (get_or-set_same plan.cells cell (record (planned_at plan cell) { records = added (records_at plan cell) }) (bare_cell 0) has)
 
-pub records_at-with_other : (plan : PlanRecords) (cell k : ℕ) (own : CellRecords) → k ≢ cell →
-    records_at (with_records plan cell own) k ≡ records_at plan k
-records_at-with_other plan cell k own other =
-    ap (λ (p : PlannedCell). p.records) (get_or-set_other plan.cells cell k (record (planned_at plan cell) { records = own }) (bare_cell 0) other)
+pub records_at-with_other : (plan : PlanRecords) (cell k : ℕ) (added : CellRecords → CellRecords) → k ≢ cell →
+    records_at (with_records plan cell added) k ≡ records_at plan k
+records_at-with_other plan cell k added other =
+    ap (λ (p : PlannedCell). p.records)
+    (get_or-set_other plan.cells cell k (record (planned_at plan cell) { records = added (records_at plan cell) }) (bare_cell 0) other)

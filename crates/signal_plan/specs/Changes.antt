@@ -1,11 +1,10 @@
-use Rattle.std.specs.Prelude.{ℕ, ◌<◌, List, length, nat_le, reverse, slice_index_or}
-use Rattle.std.specs.List.{find}
-use Rattle.std.specs.Option.{option_map_or}
+use Rattle.std.specs.Prelude.{ℕ, ◌<◌, List, length, nat_le, slice_index_or}
+use Rattle.signal_plan.specs.Last.{last_said}
 use Rattle.signal_plan.specs.declared.change.Change.{Change}
 
 -- the value in force at step `t`: that of the last change at or before it, and else the value at the start
 unfoldable pub in_force : {X : Type 0} → (start : X) → List (Change X) → (t : ℕ) → X
-in_force start changes t = option_map_or (λ change. change.value) (find (λ change. nat_le change.step t) (reverse changes)) start
+in_force start changes t = last_said (λ change. nat_le change.step t) (λ change. change.value) changes start
 
 -- each change is at a later step than all before it
 abbrev pub IsRising : {X : Type 0} → List (Change X) → Type 0

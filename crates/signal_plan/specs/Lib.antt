@@ -1,5 +1,7 @@
 pub mod Limits
 pub mod Records
+pub mod Last
+pub mod Alone
 pub mod Counts
 pub mod Speeds
 pub mod Sound

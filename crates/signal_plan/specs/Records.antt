@@ -75,47 +75,31 @@ planned_at plan cell = slice_index_or plan.cells cell (bare_cell 0)
 abbrev pub records_at : PlanRecords → (cell : ℕ) → CellRecords
 records_at plan cell = (planned_at plan cell).records
 
--- the plan without cells
-abbrev pub no_records : PlanRecords
-no_records = record { cells = [] }
-
 -- one more cell, of this capacity
 abbrev pub with_cell : PlanRecords → ℕ → PlanRecords
 with_cell plan capacity = record { cells = plan.cells ++ bare_cell capacity ∷ [] }
 
--- other records of the cell
-abbrev pub with_records : PlanRecords → (cell : ℕ) → CellRecords → PlanRecords
-with_records plan cell own = record { cells = slice_set plan.cells cell (record (planned_at plan cell) { records = own }) }
+-- the plan with the records of the cell changed so
+abbrev pub with_records : PlanRecords → (cell : ℕ) → (changed : CellRecords → CellRecords) → PlanRecords
+with_records plan cell changed =
+    record { cells = slice_set plan.cells cell (record (planned_at plan cell) { records = changed (records_at plan cell) }) }
 
--- this signal, in place of any that the cell had
-abbrev pub with_own_signal : CellRecords → SignalRecord → CellRecords
-with_own_signal own signal = record own { signal = Some signal }
-
--- one more record of the cell
-abbrev pub with_own_limit : CellRecords → LimitRecord → CellRecords
-with_own_limit own limit = record own { limits = own.limits ++ limit ∷ [] }
-
-abbrev pub with_own_demand : CellRecords → DemandRecord → CellRecords
-with_own_demand own demand = record own { demands = own.demands ++ demand ∷ [] }
-
-abbrev pub with_own_turn : CellRecords → TurnRecord → CellRecords
-with_own_turn own turn = record own { turns = own.turns ++ turn ∷ [] }
-
-abbrev pub with_own_speed : CellRecords → SpeedRecord → CellRecords
-with_own_speed own speed = record own { speeds = own.speeds ++ speed ∷ [] }
-
--- the record among those of its cell
+-- this signal of its cell, in place of any that the cell had
 abbrev pub with_signal : PlanRecords → SignalRecord → PlanRecords
-with_signal plan signal = with_records plan signal.cell (with_own_signal (records_at plan signal.cell) signal)
+with_signal plan signal = with_records plan signal.cell (λ own. record own { signal = Some signal })
 
+-- one more limit of its cell
 abbrev pub with_limit : PlanRecords → LimitRecord → PlanRecords
-with_limit plan limit = with_records plan limit.cell (with_own_limit (records_at plan limit.cell) limit)
+with_limit plan limit = with_records plan limit.cell (λ own. record own { limits = own.limits ++ limit ∷ [] })
 
+-- one more demand record of its gate
 abbrev pub with_demand : PlanRecords → DemandRecord → PlanRecords
-with_demand plan demand = with_records plan demand.cell (with_own_demand (records_at plan demand.cell) demand)
+with_demand plan demand = with_records plan demand.cell (λ own. record own { demands = own.demands ++ demand ∷ [] })
 
+-- one more turn record of its cell
 abbrev pub with_turn : PlanRecords → TurnRecord → PlanRecords
-with_turn plan turn = with_records plan turn.cell (with_own_turn (records_at plan turn.cell) turn)
+with_turn plan turn = with_records plan turn.cell (λ own. record own { turns = own.turns ++ turn ∷ [] })
 
+-- one more speed record of its road
 abbrev pub with_speed : PlanRecords → SpeedRecord → PlanRecords
-with_speed plan speed = with_records plan speed.cell (with_own_speed (records_at plan speed.cell) speed)
+with_speed plan speed = with_records plan speed.cell (λ own. record own { speeds = own.speeds ++ speed ∷ [] })

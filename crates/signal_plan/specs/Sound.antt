@@ -1,6 +1,6 @@
 use Rattle.std.specs.Prelude.{◌≡◌, ℕ, ◌<◌, ◌≤◌, length, All, IfSome}
 use Rattle.fixed_flow.specs.Limits.{most_parts, most_ratio}
-use Rattle.signal_plan.specs.Counts.{counts_of, demand_count}
+use Rattle.signal_plan.specs.Counts.{counts_of}
 use Rattle.signal_plan.specs.Limits.{most_cells, most_records, most_steps}
 use Rattle.signal_plan.specs.Records.{CellRecords, DemandRecord, PlanRecords, SignalRecord, SpeedRecord, TurnRecord, records_at}
 use Rattle.signal_plan.specs.Speeds.{IsSpeed}
@@ -42,7 +42,7 @@ pub record AreSound (cell : ℕ) (own : CellRecords) : Type 0 where
 -- what holds of every plan
 pub record IsSoundPlan (plan : PlanRecords) : Type 0 where
   pub few_cells : length plan.cells ≤ most_cells
-  pub few_demands : demand_count plan ≤ most_records
+  pub few_demands : (counts_of plan).demands ≤ most_records
   pub records : (cell : ℕ) → cell < length plan.cells → AreSound cell (records_at plan cell)
 
 -- a plan with its counts

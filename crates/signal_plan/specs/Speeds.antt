@@ -1,21 +1,13 @@
-use Rattle.std.specs.Prelude.{ℕ, ◌≤◌, ◌*◌, ◌/◌, Bool, not, ◌==◌, List, Option, length, reverse}
-use Rattle.std.specs.List.{find}
-use Rattle.std.specs.Option.{option_map_or}
+use Rattle.std.specs.Prelude.{ℕ, ◌≤◌, ◌*◌, ◌/◌, Bool, not, ◌==◌, length}
 use Rattle.fixed_flow.specs.Limits.{most_ratio}
-use Rattle.signal_plan.specs.Records.{CellRecords, PlanRecords, SpeedRecord, in_range, records_at}
-
--- the last speed record whose range contains `t`
-abbrev pub last_speed : List SpeedRecord → (t : ℕ) → Option SpeedRecord
-last_speed speeds t = find (λ speed. in_range speed.from speed.to t) (reverse speeds)
-
--- the speed by that record as a ratio to the road's, and else the road's own
-abbrev pub own_speed : CellRecords → (t : ℕ) → ℕ × ℕ
-own_speed own t = option_map_or (λ speed. (speed.num, speed.den)) (last_speed own.speeds t) (1, 1)
+use Rattle.signal_plan.specs.Last.{last_said}
+use Rattle.signal_plan.specs.Records.{PlanRecords, in_range, records_at}
 
 -- the free-flow speed in the cell as a ratio to the road's: that of the cell's last speed record whose range contains `t`,
 -- and else 1/1
 unfoldable pub speed_at : PlanRecords → (cell t : ℕ) → ℕ × ℕ
-speed_at plan cell t = own_speed (records_at plan cell) t
+speed_at plan cell t =
+    last_said (λ speed. in_range speed.from speed.to t) (λ speed. (speed.num, speed.den)) (records_at plan cell).speeds (1, 1)
 
 -- a ratio of at most 1, with numbers up to 1,000
 pub record IsSpeed (speed : ℕ × ℕ) : Type 0 where

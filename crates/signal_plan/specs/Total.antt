@@ -1,11 +1,7 @@
 use Rattle.std.specs.Prelude.{ℕ, ◌-◌, length, sum_by}
 use Rattle.std.specs.List.{range_with_len}
-use Rattle.signal_plan.specs.Records.{CellRecords, PlanRecords}
-use Rattle.signal_plan.specs.Demand.{demand_at, own_demand}
-
--- what all demand records of a cell bring in the steps of `[t, end)`
-abbrev pub own_demand_from : CellRecords → (t end : ℕ) → ℕ
-own_demand_from own t end = sum_by (own_demand own) (range_with_len t (end - t))
+use Rattle.signal_plan.specs.Records.{PlanRecords}
+use Rattle.signal_plan.specs.Demand.{demand_at}
 
 -- what enters the gate in the steps of `[t, end)`
 unfoldable pub demand_from : PlanRecords → (cell t end : ℕ) → ℕ

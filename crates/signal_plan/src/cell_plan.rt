@@ -41,12 +41,13 @@ impl Model for CellPlan {
 
 impl CellPlan {
     ghost use Rattle.signal_plan.specs.Records.{bare_cell};
-    ghost use Rattle.signal_plan.specs.Capacity.{own_capacity};
+    ghost use Rattle.signal_plan.specs.Alone.{alone};
+    ghost use Rattle.signal_plan.specs.Capacity.{capacity_at};
     ghost use Rattle.signal_plan.specs.Green.{is_green_by};
-    ghost use Rattle.signal_plan.specs.Demand.{own_demand};
-    ghost use Rattle.signal_plan.specs.Total.{own_demand_from};
-    ghost use Rattle.signal_plan.specs.Turning.{own_shares};
-    ghost use Rattle.signal_plan.specs.Speeds.{own_speed};
+    ghost use Rattle.signal_plan.specs.Demand.{demand_at};
+    ghost use Rattle.signal_plan.specs.Total.{demand_from};
+    ghost use Rattle.signal_plan.specs.Turning.{shares_at};
+    ghost use Rattle.signal_plan.specs.Speeds.{speed_at};
 
     /// A cell of this capacity, without records.
     pub(crate) fn new(capacity: u64) -> Self
@@ -150,8 +151,9 @@ impl CellPlan {
     }
 
     /// The capacity at step `t`, by the newest limit that speaks of it.
+    #[tactic(auto, unfolding(crate::specs::Capacity::capacity_at))]
     pub(crate) fn capacity_at(&self, t: u64) -> u64
-        ensures { result ≡ own_capacity self.now t }
+        ensures { result ≡ capacity_at (alone self.now) 0 t }
     {
         match newest_at(self.limits(), t) {
             Some(limit) => limit.capacity,
@@ -160,8 +162,9 @@ impl CellPlan {
     }
 
     /// The turning shares at step `t`, by the newest turn record that speaks of it, and else `own`.
+    #[tactic(auto, unfolding(crate::specs::Turning::shares_at))]
     pub(crate) fn shares_at(&self, t: u64, own: (u32, u32)) -> (u32, u32)
-        ensures { result ≡ own_shares self.now.records t own }
+        ensures { result ≡ shares_at (alone self.now) 0 t own }
     {
         match newest_at(self.turns(), t) {
             Some(turn) => (turn.b1, turn.b2),
@@ -170,8 +173,9 @@ impl CellPlan {
     }
 
     /// The speed at step `t` as a ratio to the road's, by the newest speed record that speaks of it, and else 1/1.
+    #[tactic(auto, unfolding(crate::specs::Speeds::speed_at))]
     pub(crate) fn speed_at(&self, t: u64) -> (u32, u32)
-        ensures { result ≡ own_speed self.now.records t }
+        ensures { result ≡ speed_at (alone self.now) 0 t }
     {
         match newest_at(self.speeds(), t) {
             Some(speed) => (speed.num, speed.den),
@@ -180,9 +184,10 @@ impl CellPlan {
     }
 
     /// What all demand records bring in step `t`.
+    #[tactic(auto, unfolding(crate::specs::Demand::demand_at))]
     pub(crate) fn demand_at(&self, t: u64) -> u64
-        requires fits { own_demand self.now.records t < 2 ^ 64 }
-        ensures { result ≡ own_demand self.now.records t }
+        requires fits { demand_at (alone self.now) 0 t < 2 ^ 64 }
+        ensures { result ≡ demand_at (alone self.now) 0 t }
     {
         let mut amount = 0;
         for demand in self.demands() {
@@ -193,8 +198,8 @@ impl CellPlan {
 
     /// What all demand records bring in the steps of `[t, end)`.
     pub(crate) fn demand_from(&self, t: u64, end: u64) -> u128
-        requires fits { own_demand_from self.now.records t end < 2 ^ 128 }
-        ensures { result ≡ own_demand_from self.now.records t end }
+        requires fits { demand_from (alone self.now) 0 t end < 2 ^ 128 }
+        ensures { result ≡ demand_from (alone self.now) 0 t end }
     {
         let mut amount = 0;
         for demand in self.demands() {
@@ -206,7 +211,7 @@ impl CellPlan {
     /// The changes of the capacity.
     pub(crate) fn capacity_changes(&self, alloc: Global) -> Result<Vec<Change<u64>>, NoMemory>
         ensures in_force { IfOk result (λ changes. (t : ℕ) → in_force self.now.capacity changes.items t ≡
-            own_capacity self.now t) }
+            capacity_at (alone self.now) 0 t) }
         ensures rising { IfOk result (λ changes. IsRising changes.items) }
     {
         let changes = record_changes(alloc, self.limits())?;
@@ -215,9 +220,9 @@ impl CellPlan {
 
     /// The changes of what all demand records bring.
     pub(crate) fn demand_changes(&self, alloc: Global) -> Result<Vec<Change<u64>>, NoMemory>
-        requires fits { (t : ℕ) → own_demand self.now.records t < 2 ^ 64 }
+        requires fits { (t : ℕ) → demand_at (alone self.now) 0 t < 2 ^ 64 }
         ensures in_force { IfOk result (λ changes. (t : ℕ) → in_force 0 changes.items t ≡
-            own_demand self.now.records t) }
+            demand_at (alone self.now) 0 t) }
         ensures rising { IfOk result (λ changes. IsRising changes.items) }
     {
         record_changes(alloc, self.demands())
@@ -230,7 +235,7 @@ impl CellPlan {
         own: (u32, u32),
     ) -> Result<Vec<Change<(u32, u32)>>, NoMemory>
         ensures in_force { IfOk result (λ changes. (t : ℕ) → in_force own changes.items t ≡
-            own_shares self.now.records t own) }
+            shares_at (alone self.now) 0 t own) }
         ensures rising { IfOk result (λ changes. IsRising changes.items) }
     {
         let changes = record_changes(alloc, self.turns())?;
@@ -240,7 +245,7 @@ impl CellPlan {
     /// The changes of the speed as a ratio to the road's, which is 1/1 where no speed record speaks.
     pub(crate) fn speed_changes(&self, alloc: Global) -> Result<Vec<Change<(u32, u32)>>, NoMemory>
         ensures in_force { IfOk result (λ changes. (t : ℕ) → in_force (1, 1) changes.items t ≡
-            own_speed self.now.records t) }
+            speed_at (alone self.now) 0 t) }
         ensures rising { IfOk result (λ changes. IsRising changes.items) }
     {
         let changes = record_changes(alloc, self.speeds())?;

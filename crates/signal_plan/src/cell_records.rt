@@ -1,4 +1,4 @@
-ghost use Rattle.std.specs.Prelude.{◌≡◌, ◌++◌, ◌∷◌, [], OnOk, OnErr};
+ghost use Rattle.std.specs.Prelude.{◌≡◌, ◌++◌, ◌∷◌, [], Some, OnOk, OnErr};
 ghost use Rattle.signal_plan.specs.Records as cell;
 
 use crate::demand::Demand;
@@ -60,7 +60,7 @@ pub(crate) trait CellRecord: Copy {
 
 /// In place of any signal that the cell had.
 impl CellRecord for Signal {
-    ghost added = { cell.with_own_signal };
+    ghost added = { λ own signal. record own { signal = Some signal } };
 
     fn put_into(self, records: &mut CellRecords) -> Result<(), NoMemory> {
         records.signal = Some(self);
@@ -69,7 +69,7 @@ impl CellRecord for Signal {
 }
 
 impl CellRecord for Limit {
-    ghost added = { cell.with_own_limit };
+    ghost added = { λ own limit. record own { limits = own.limits ++ limit ∷ [] } };
 
     fn put_into(self, records: &mut CellRecords) -> Result<(), NoMemory> {
         push(&mut records.limits, self)
@@ -77,7 +77,7 @@ impl CellRecord for Limit {
 }
 
 impl CellRecord for Demand {
-    ghost added = { cell.with_own_demand };
+    ghost added = { λ own demand. record own { demands = own.demands ++ demand ∷ [] } };
 
     fn put_into(self, records: &mut CellRecords) -> Result<(), NoMemory> {
         push(&mut records.demands, self)
@@ -85,7 +85,7 @@ impl CellRecord for Demand {
 }
 
 impl CellRecord for Turn {
-    ghost added = { cell.with_own_turn };
+    ghost added = { λ own turn. record own { turns = own.turns ++ turn ∷ [] } };
 
     fn put_into(self, records: &mut CellRecords) -> Result<(), NoMemory> {
         push(&mut records.turns, self)
@@ -93,7 +93,7 @@ impl CellRecord for Turn {
 }
 
 impl CellRecord for Speed {
-    ghost added = { cell.with_own_speed };
+    ghost added = { λ own speed. record own { speeds = own.speeds ++ speed ∷ [] } };
 
     fn put_into(self, records: &mut CellRecords) -> Result<(), NoMemory> {
         push(&mut records.speeds, self)

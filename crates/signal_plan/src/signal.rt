@@ -1,5 +1,5 @@
-ghost use Rattle.std.specs.Prelude.{◌≡◌, ◌<◌};
-ghost use Rattle.signal_plan.specs.Green.{shows_green};
+ghost use Rattle.std.specs.Prelude.{◌≡◌, ◌<◌, Some};
+ghost use Rattle.signal_plan.specs.Green.{is_green_by};
 
 use crate::bounds::MOST_STEPS;
 use crate::range::is_in_range;
@@ -37,7 +37,7 @@ impl Signal {
     /// Whether the signal shows green at step `t`.
     pub(crate) fn is_green_at(&self, t: u64) -> bool
         requires in_time { t < MOST_STEPS }
-        ensures { result ≡ shows_green t self.now }
+        ensures { result ≡ is_green_by (Some self.now) t }
     {
         let place = (t + u64::from(self.offset)) % u64::from(self.cycle);
         is_in_range(self.from, self.to, place)

@@ -1,9 +1,9 @@
-ghost use Rattle.std.specs.Prelude.{◌≡◌, ◌+◌, ◌*◌, ◌<◌, ◌≤◌, ℕ, false, length, IfOk, OnOk, OnErr};
-ghost use Rattle.signal_plan.specs.Records.{no_records, planned_at, with_cell, with_demand, with_limit, with_signal, with_speed, with_turn};
-ghost use Rattle.signal_plan.specs.Counts.{counts_of, demand_count};
+ghost use Rattle.std.specs.Prelude.{◌≡◌, ◌+◌, ◌*◌, ◌<◌, ◌≤◌, ℕ, false, [], is_some, length, IfOk, OnOk, OnErr};
+ghost use Rattle.signal_plan.specs.Records.{planned_at, with_cell, with_demand, with_limit, with_signal, with_speed, with_turn};
+ghost use Rattle.signal_plan.specs.Counts.{counts_of};
 ghost use Rattle.signal_plan.specs.Sound.{IsSoundPlan};
 ghost use Rattle.signal_plan.specs.Capacity.{capacity_at};
-ghost use Rattle.signal_plan.specs.Green.{green_at, is_signalled, signal_of};
+ghost use Rattle.signal_plan.specs.Green.{green_at, signal_of};
 ghost use Rattle.signal_plan.specs.Changes.{in_force, IsRising};
 ghost use Rattle.signal_plan.specs.Demand.{demand_at};
 ghost use Rattle.signal_plan.specs.Total.{demand_from, total_demand};
@@ -50,7 +50,7 @@ impl Model for Plan {
 impl Plan {
     /// The plan without cells. It takes no memory.
     pub fn open(alloc: Global) -> Self
-        ensures { result ≡ no_records }
+        ensures { result ≡ record { cells = [] } }
     {
         Plan {
             alloc,
@@ -92,7 +92,7 @@ impl Plan {
     /// Adds the signal of a cell that has none yet.
     pub fn put_signal(&mut self, signal: Signal) -> Result<(), NoMemory>
         requires has_cell { signal.cell < length self.old.cells }
-        requires no_signal { is_signalled self.old signal.cell ≡ false }
+        requires no_signal { is_some (signal_of self.old signal.cell) ≡ false }
         requires cycle { signal.cycle ≤ MOST_STEPS }
         requires some_green { signal.from < signal.to }
         requires within { signal.to ≤ signal.cycle }
@@ -111,7 +111,7 @@ impl Plan {
         requires has_cell { demand.cell < length self.old.cells }
         requires some_step { demand.from < demand.to }
         requires amount { demand.amount ≤ MOST_PARTS }
-        requires few_demands { demand_count self.old < MOST_RECORDS }
+        requires few_demands { (counts_of self.old).demands < MOST_RECORDS }
         ensures added { OnOk result (self.new ≡ with_demand self.old demand) }
         ensures unchanged { OnErr result (self.new ≡ self.old) }
     {
@@ -227,7 +227,7 @@ impl Plan {
     /// Whether a cell has a signal.
     pub fn has_signal(&self, cell: u32) -> bool
         requires has_cell { cell < length self.now.cells }
-        ensures { result ≡ is_signalled self.now cell }
+        ensures { result ≡ is_some (signal_of self.now cell) }
     {
         self.cells[cell as usize].has_signal()
     }

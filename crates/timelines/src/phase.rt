@@ -1,5 +1,5 @@
-ghost use Rattle.std.specs.Prelude.{◌≡◌, ◌≤◌, ◌<◌, ◌+◌, ◌-◌, ◌%◌, ℕ};
-ghost use Rattle.signal_plan.specs.Green.{is_green_by, shows_green};
+ghost use Rattle.std.specs.Prelude.{◌≡◌, ◌≤◌, ◌<◌, ◌+◌, ◌-◌, ◌%◌, ℕ, Some};
+ghost use Rattle.signal_plan.specs.Green.{is_green_by};
 ghost use Rattle.timelines.specs.Timelines.{IsSteady};
 
 use crate::now::Now;
@@ -24,8 +24,8 @@ pub(crate) fn light(signal: Option<Signal>, t: u64) -> Now<bool>
 // The light of a signal, up to where its green begins or ends, or its cycle does.
 fn phase(signal: Signal, t: u64) -> Now<bool>
     requires in_time { t ≤ MOST_STEPS }
-    ensures green { result.value ≡ shows_green t signal }
-    ensures steady { IsSteady (λ s. shows_green s signal) t result.until }
+    ensures green { result.value ≡ is_green_by (Some signal) t }
+    ensures steady { IsSteady (is_green_by (Some signal)) t result.until }
     ensures later { t < result.until }
 {
     let (cycle, from, to) = (

@@ -1,6 +1,6 @@
 use Rattle.std.specs.Prelude.{sum_by}
 use Rattle.std.proofs.Common.{◌≡◌, take}
-use Rattle.signal_plan.specs.Demand.{brings}
+use Rattle.signal_plan.proofs.Totals.{brings}
 use Rattle.signal_plan.proofs.cell_plan.CellPlan.demand_at.Given as goal
 
 abbrev pub invariant-loop-demand : goal.invariant-loop-demand

@@ -1,12 +1,14 @@
 use Rattle.std.specs.Prelude.{sum_by}
 use Rattle.std.proofs.Common.{◌<◌, ◌^◌, ap, subst, sym, ◌∙◌}
 use Rattle.std.proofs.lemmas.Result.{IfOk-weaker}
-use Rattle.signal_plan.specs.Demand.{brings}
+use Rattle.signal_plan.specs.Demand.{demand_at}
 use Rattle.signal_plan.specs.Records.{DemandRecord, in_range}
 use Rattle.signal_plan.proofs.Given.{given_by-sum}
+use Rattle.signal_plan.proofs.Totals.{brings}
 use Rattle.signal_plan.proofs.cell_plan.CellPlan.demand_changes.Goals as goal
 
 pub record_changes-requires : goal.record_changes-requires
+unfolding demand_at
 record_changes-requires c = record {
   fits = λ t.
       let given = given_by-sum (λ (d : DemandRecord). d.amount) (λ d step. in_range d.from d.to step) c.demands.result.now t in
@@ -14,6 +16,7 @@ record_changes-requires c = record {
 }
 
 pub returns-clause-in_force : goal.returns-clause-in_force
+unfolding demand_at
 returns-clause-in_force c =
     IfOk-weaker c.record_changes.result _ _ (λ changes same t.
     same t ∙

@@ -2,7 +2,7 @@ use Rattle.std.specs.Prelude.{sum_by}
 use Rattle.std.proofs.Common.{arith, sym, ap, ◌∙◌}
 use Rattle.std.proofs.lemmas.List.{take_all}
 use Rattle.std.proofs.lemmas.List.Sums.{sum_by_more_le}
-use Rattle.signal_plan.proofs.Totals.{brought, own_demand_from_sum}
+use Rattle.signal_plan.proofs.Totals.{brought, demand_from_sum}
 use Rattle.signal_plan.proofs.cell_plan.CellPlan.demand_from.Goals as goal
 
 pub overflow_add-amount : goal.overflow_add-amount
@@ -16,7 +16,7 @@ overflow_add-amount c =
       c.loop-demand.invariant,
       rw (← c.demand-item.is) at more,
       ap (sum_by each) own,
-      own_demand_from_sum c.args.self.now.records c.args.t c.args.end,
+      demand_from_sum c.args.self.now c.args.t c.args.end,
       c.requires.fits,
     )
 
@@ -27,4 +27,4 @@ returns c =
     let own = c.demands-demand-items.ensures in
     rw whole at c.loop-demand.invariant ∙
     ap (sum_by each) own ∙
-    sym (own_demand_from_sum c.args.self.now.records c.args.t c.args.end)
+    sym (demand_from_sum c.args.self.now c.args.t c.args.end)

@@ -1,7 +1,8 @@
 use Rattle.std.proofs.Common.{◌≡◌, ℕ, arith, ◌∙◌}
 use Rattle.std.proofs.lemmas.Result.{IfOk-weaker}
 use Rattle.signal_plan.specs.Changes.{in_force}
-use Rattle.signal_plan.specs.Demand.{own_demand}
+use Rattle.signal_plan.specs.Alone.{alone}
+use Rattle.signal_plan.specs.Demand.{demand_at}
 use Rattle.signal_plan.proofs.Laws.{demand_at-le}
 use Rattle.signal_plan.proofs.CellReads.{demand_read}
 use Rattle.signal_plan.proofs.step_plan.Plan.demand_changes.Goals as goal
@@ -20,6 +21,6 @@ demand_changes-requires c =
 pub returns-clause-in_force : goal.returns-clause-in_force
 returns-clause-in_force c =
     let has = rw (← c.self.view_is) at c.requires.has_cell in
-    IfOk-weaker c.demand_changes.result (λ changes. (t : ℕ) → in_force 0 changes.items t ≡ own_demand c.index.result.now.records t) _ (λ changes same t. rw (← c.self.view_is) (
+    IfOk-weaker c.demand_changes.result (λ changes. (t : ℕ) → in_force 0 changes.items t ≡ demand_at (alone c.index.result.now) 0 t) _ (λ changes same t. rw (← c.self.view_is) (
     same t ∙ demand_read _ c.args.cell t _ has c.index.ensures
     )) c.demand_changes.ensures.in_force

@@ -1,6 +1,6 @@
 use Rattle.std.specs.Prelude.{slice_set}
-use Rattle.std.proofs.Common.{◌≡◌, ap, refl}
-use Rattle.signal_plan.specs.Records.{with_demand, with_own_demand}
+use Rattle.std.proofs.Common.{◌≡◌, [], ◌∷◌, ◌++◌, ap, refl}
+use Rattle.signal_plan.specs.Records.{with_demand}
 use Rattle.signal_plan.proofs.Planned.{with_records-read}
 use Rattle.signal_plan.proofs.Sound.{IsCounted-with_demand}
 use Rattle.signal_plan.proofs.step_plan.Plan.put_demand.Goals as goal
@@ -14,7 +14,7 @@ cells_are : (c : goal.After-self-2-1) →
     slice_set c.self.inside.cells.items c.args.demand.cell c.put.new.self ≡ (with_demand (record { cells = c.self.inside.cells.items }) c.args.demand).cells
 cells_are c =
     let has = rw (← c.self.view_is) at c.requires.has_cell in
-    with_records-read (record { cells = c.self.inside.cells.items }) c.args.demand.cell (λ own. with_own_demand own c.args.demand) _ c.put.new.self has
+    with_records-read (record { cells = c.self.inside.cells.items }) c.args.demand.cell (λ own. record own { demands = own.demands ++ c.args.demand ∷ [] }) _ c.put.new.self has
     (rw (cell_is c) at c.index_mut-own.ensures.value) c.in_ok-put.ensures.added
 
 pub invariant_of-self-2 : goal.invariant_of-self-2

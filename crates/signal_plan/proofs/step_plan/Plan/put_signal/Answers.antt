@@ -1,6 +1,6 @@
-use Rattle.std.specs.Prelude.{slice_set}
+use Rattle.std.specs.Prelude.{Some, slice_set}
 use Rattle.std.proofs.Common.{◌≡◌, ◌<◌, subst, ap, refl}
-use Rattle.signal_plan.specs.Records.{with_signal, with_own_signal}
+use Rattle.signal_plan.specs.Records.{with_signal}
 use Rattle.signal_plan.proofs.Planned.{with_records-read}
 use Rattle.signal_plan.proofs.Sound.{IsCounted-with_signal}
 use Rattle.signal_plan.proofs.step_plan.Plan.put_signal.Goals as goal
@@ -14,7 +14,7 @@ cells_are : (c : goal.After-self-2-1) →
     slice_set c.self.inside.cells.items c.args.signal.cell c.put.new.self ≡ (with_signal (record { cells = c.self.inside.cells.items }) c.args.signal).cells
 cells_are c =
     let has = rw (← c.self.view_is) at c.requires.has_cell in
-    with_records-read (record { cells = c.self.inside.cells.items }) c.args.signal.cell (λ own. with_own_signal own c.args.signal) _ c.put.new.self has
+    with_records-read (record { cells = c.self.inside.cells.items }) c.args.signal.cell (λ own. record own { signal = Some c.args.signal }) _ c.put.new.self has
     (rw (cell_is c) at c.index_mut-own.ensures.value) c.in_ok-put.ensures.added
 
 pub invariant_of-self-2 : goal.invariant_of-self-2

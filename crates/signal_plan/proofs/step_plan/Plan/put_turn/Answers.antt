@@ -1,6 +1,6 @@
 use Rattle.std.specs.Prelude.{slice_set}
-use Rattle.std.proofs.Common.{◌≡◌, ap, refl}
-use Rattle.signal_plan.specs.Records.{with_turn, with_own_turn}
+use Rattle.std.proofs.Common.{◌≡◌, [], ◌∷◌, ◌++◌, ap, refl}
+use Rattle.signal_plan.specs.Records.{with_turn}
 use Rattle.signal_plan.proofs.Planned.{with_records-read}
 use Rattle.signal_plan.proofs.Sound.{IsCounted-with_turn}
 use Rattle.signal_plan.proofs.step_plan.Plan.put_turn.Goals as goal
@@ -14,7 +14,7 @@ cells_are : (c : goal.After-self-2-1) →
     slice_set c.self.inside.cells.items c.args.turn.cell c.put.new.self ≡ (with_turn (record { cells = c.self.inside.cells.items }) c.args.turn).cells
 cells_are c =
     let has = rw (← c.self.view_is) at c.requires.has_cell in
-    with_records-read (record { cells = c.self.inside.cells.items }) c.args.turn.cell (λ own. with_own_turn own c.args.turn) _ c.put.new.self has
+    with_records-read (record { cells = c.self.inside.cells.items }) c.args.turn.cell (λ own. record own { turns = own.turns ++ c.args.turn ∷ [] }) _ c.put.new.self has
     (rw (cell_is c) at c.index_mut-own.ensures.value) c.in_ok-put.ensures.added
 
 pub invariant_of-self-2 : goal.invariant_of-self-2
