@@ -7,7 +7,7 @@ use Rattle.std.proofs.lemmas.Bool.Decides.{nat_tests}
 use Rattle.std.specs.Char.{is_ascii_digit, digit_value}
 use Rattle.std.specs.List.{list_all, list_any, before_first, after_first, position_or_len}
 use Rattle.std.specs.Str.Parse.{digits_value, digits_value_after}
-use Rattle.fixed_flow.specs.Spelling.{amount_of, is_point, is_amount, is_digits, decimal_parts}
+use Rattle.fixed_flow.specs.Spelling.{amount_of, is_point, is_digits}
 use Rattle.fixed_flow.specs.Pass.{parts_at_end}
 use Rattle.fixed_flow.proofs.DigitFacts.{digits_value_after-is, pow_at_most}
 
@@ -99,7 +99,7 @@ is_digits-at_most most ds all = at_most most ds (and_parts _ (list_all is_ascii_
 
 -- the value of digits on both sides of the point, in parts
 value_of_both : (whole decimals : List ℕ) → length decimals ≤ 6
-    → digits_value 10 whole * 1_000_000 + decimal_parts decimals ≡ digits_value_after 10 (digits_value 10 whole) decimals * 10 ^ (6 - length decimals)
+    → digits_value 10 whole * 1_000_000 + digits_value 10 decimals * 10 ^ (6 - length decimals) ≡ digits_value_after 10 (digits_value 10 whole) decimals * 10 ^ (6 - length decimals)
 value_of_both whole decimals short =
     let n : length decimals + (6 - length decimals) ≡ 6 = omega arith in
     let million : 10 ^ length decimals * 10 ^ (6 - length decimals) ≡ 10 ^ 6 = sym (pow-add 10 (length decimals) (6 - length decimals)) ∙ ap (λ k. 10 ^ k) n in
@@ -122,14 +122,14 @@ chosen true true true true false x y z without both = refl
 chosen true true true true true x y z without both = ap Some (both refl)
 
 same_pieces : (whole : List ℕ) (point : Bool) (decimals : List ℕ) → (point ≡ false → decimals ≡ [])
-    → (if is_digits 12 whole && (not point || is_digits 6 decimals) then Some (digits_value 10 whole * 1_000_000 + decimal_parts decimals) else None)
+    → (if is_digits 12 whole && (not point || is_digits 6 decimals) then Some (digits_value 10 whole * 1_000_000 + digits_value 10 decimals * 10 ^ (6 - length decimals)) else None)
     ≡ assembled 0 0 whole point decimals
 unfolding assembled
 same_pieces whole point decimals absent =
     let whole_value = digits_value 10 whole in
     let both_value = digits_value_after 10 whole_value decimals in
-    let without : point ≡ false → whole_value * 1_000_000 + decimal_parts decimals ≡ whole_value * 1_000_000 = λ none. rw (absent none) (omega arith) in
-    let both : (nat_lt 0 (length decimals) && nat_le (length decimals) 6) ≡ true → whole_value * 1_000_000 + decimal_parts decimals ≡ both_value * 10 ^ (6 - length decimals)
+    let without : point ≡ false → whole_value * 1_000_000 + digits_value 10 decimals * 10 ^ (6 - length decimals) ≡ whole_value * 1_000_000 = λ none. rw (absent none) (omega arith) in
+    let both : (nat_lt 0 (length decimals) && nat_le (length decimals) 6) ≡ true → whole_value * 1_000_000 + digits_value 10 decimals * 10 ^ (6 - length decimals) ≡ both_value * 10 ^ (6 - length decimals)
     = λ some. value_of_both whole decimals (at_most 6 decimals some) in
     rw (zero-add (length whole))
     (chosen (list_all is_ascii_digit whole) point (list_all is_ascii_digit decimals) (nat_lt 0 (length whole) && nat_le (length whole) 12) (nat_lt 0 (length decimals) && nat_le (length decimals) 6) _ _ _ without both)
@@ -144,7 +144,8 @@ pub amount_of-is : (text : List ℕ) → amount_of text ≡ parts_from 0 0 None 
 unfolding amount_of
 amount_of-is text = same_pieces _ _ _ (after_first-none text) ∙ sym (before 0 0 text)
 
-no_amount_over_nineteen : (text : List ℕ) → 19 < length text → is_amount text ≡ true → ⊥
+no_amount_over_nineteen : (text : List ℕ) → 19 < length text
+    → (is_digits 12 (before_first is_point text) && (not (list_any is_point text) || is_digits 6 (after_first is_point text))) ≡ true → ⊥
 no_amount_over_nineteen text long spelled =
     let parts = and_parts (is_digits 12 (before_first is_point text)) _ spelled in
     let whole = is_digits-at_most 12 (before_first is_point text) parts.0 in
@@ -157,7 +158,7 @@ no_amount_over_nineteen text long spelled =
 
 pub amount_of-too_long : (text : List ℕ) → 19 < length text → amount_of text ≡ None
 unfolding amount_of
-amount_of-too_long text long = rw (false_from_ne_true (is_amount text) (no_amount_over_nineteen text long)) refl
+amount_of-too_long text long = rw (false_from_ne_true _ (no_amount_over_nineteen text long)) refl
 
 -- a value of so many digits: all the bytes so far but the point
 abbrev pub IsBelowDigits : ℕ → ℕ → Option ℕ → Type 0

@@ -1,5 +1,5 @@
 -- A printed amount spells the amount that was printed.
-use Rattle.std.proofs.Common.{◌≡◌, ℕ, ◌+◌, ◌*◌, ◌/◌, ◌%◌, ◌^◌, ◌<◌, ◌≤◌, true, false, ◌&&◌, ◌||◌, List, [], ◌∷◌, ◌++◌, length, Some, ℤ, pos, negsuc, int_lt, true≢false, unsigned_abs, nat_lt, nat_le, refl, ap, ◌∙◌, arith}
+use Rattle.std.proofs.Common.{◌≡◌, ℕ, ◌+◌, ◌-◌, ◌*◌, ◌/◌, ◌%◌, ◌^◌, ◌<◌, ◌≤◌, true, false, ◌&&◌, ◌||◌, List, [], ◌∷◌, ◌++◌, length, map, Some, ℤ, pos, negsuc, int_lt, true≢false, unsigned_abs, nat_lt, nat_le, refl, ap, ◌∙◌, arith}
 use Rattle.std.proofs.lemmas.Bool.{and_from, and_parts}
 use Rattle.std.proofs.lemmas.Bool.Decides.{nat_tests}
 use Rattle.std.proofs.lemmas.Fmt.{decimal_is_IsNumeral, length-decimal-le}
@@ -9,8 +9,8 @@ use Rattle.std.specs.Fmt.{decimal}
 use Rattle.std.specs.Int.{IsInRange}
 use Rattle.std.specs.List.{list_all, list_any, before_first, after_first}
 use Rattle.std.specs.Str.Parse.{AllDigits, digits_value}
-use Rattle.fixed_flow.specs.Printed.{amount_text, signed_amount_text, six_digits}
-use Rattle.fixed_flow.specs.Spelling.{amount_of, is_point, is_digits, decimal_parts}
+use Rattle.fixed_flow.specs.Printed.{amount_text, signed_amount_text}
+use Rattle.fixed_flow.specs.Spelling.{amount_of, is_point, is_digits}
 use Rattle.fixed_flow.proofs.DigitFacts.{digit_value-at_digit}
 use Rattle.fixed_flow.proofs.PassFacts.{before_first-more, after_first-more}
 
@@ -35,7 +35,7 @@ any_point-append (c ∷ cs) rest = rw (any_point-append cs rest) (elim (is_point
 
 -- digits, a point and digits
 amount_of-append : (whole decimals : List ℕ) → is_digits 12 whole ≡ true → is_digits 6 decimals ≡ true
-    → amount_of (whole ++ 46 ∷ decimals) ≡ Some (digits_value 10 whole * 1_000_000 + decimal_parts decimals)
+    → amount_of (whole ++ 46 ∷ decimals) ≡ Some (digits_value 10 whole * 1_000_000 + digits_value 10 decimals * 10 ^ (6 - length decimals))
 unfolding amount_of
 amount_of-append whole decimals before behind =
     let all = (and_parts _ (list_all is_ascii_digit whole) before).1 in
@@ -60,6 +60,20 @@ is_digits-decimal n below =
 
 -- ---- the six decimals
 
+abbrev six_digits : ℕ → List ℕ
+six_digits n = map (λ place. 48 + n / place % 10) (100_000 ∷ 10_000 ∷ 1_000 ∷ 100 ∷ 10 ∷ 1 ∷ [])
+
+-- the places behind the point show the rest alone
+pub rest_digits : (n : ℕ) → six_digits (n % 1_000_000) ≡ six_digits n
+rest_digits n =
+    let a : n % 1_000_000 / 100_000 % 10 ≡ n / 100_000 % 10 = omega arith in
+    let b : n % 1_000_000 / 10_000 % 10 ≡ n / 10_000 % 10 = omega arith in
+    let c : n % 1_000_000 / 1_000 % 10 ≡ n / 1_000 % 10 = omega arith in
+    let d : n % 1_000_000 / 100 % 10 ≡ n / 100 % 10 = omega arith in
+    let e : n % 1_000_000 / 10 % 10 ≡ n / 10 % 10 = omega arith in
+    let f : n % 1_000_000 / 1 % 10 ≡ n / 1 % 10 = omega arith in
+    rw (a, b, c, d, e, f) refl
+
 is_ascii_digit-glyph : (d : ℕ) → d < 10 → is_ascii_digit (48 + d) ≡ true
 is_ascii_digit-glyph d below = grind (arith, nat_tests)
 
@@ -71,8 +85,8 @@ is_digits-six n =
     let glyph = λ (m : ℕ). is_ascii_digit-glyph (m % 10) (omega arith) in
     rw (glyph (n / 100000), glyph (n / 10000), glyph (n / 1000), glyph (n / 100), glyph (n / 10), glyph (n / 1)) refl
 
-digits_value-six : (n : ℕ) → n < 1_000_000 → digits_value 10 (six_digits n) ≡ n
-digits_value-six n below =
+digits_value-six : (n : ℕ) → digits_value 10 (six_digits n) ≡ n % 1_000_000
+digits_value-six n =
     let glyph = λ (m : ℕ). digit_value-glyph (m % 10) (omega arith) in
     rw (glyph (n / 100000), glyph (n / 10000), glyph (n / 1000), glyph (n / 100), glyph (n / 10), glyph (n / 1)) (omega arith)
 
@@ -80,12 +94,10 @@ pub amount_of-amount_text : (parts : ℕ) → parts < 10 ^ 18 → amount_of (amo
 unfolding amount_text
 amount_of-amount_text parts below =
     let vehicles = parts / 1_000_000 in
-    let rest = parts % 1_000_000 in
     let few : vehicles < 10 ^ 12 = omega arith in
     let whole : digits_value 10 (decimal vehicles) ≡ vehicles = (decimal_is_IsNumeral vehicles (omega arith)).1 in
-    let decimals : digits_value 10 (six_digits rest) ≡ rest = digits_value-six rest (omega arith) in
-    amount_of-append (decimal vehicles) (six_digits rest) (is_digits-decimal vehicles few) (is_digits-six rest)
-    ∙ ap Some (omega (arith, whole, decimals))
+    amount_of-append (decimal vehicles) (six_digits parts) (is_digits-decimal vehicles few) (is_digits-six parts)
+    ∙ ap Some (omega (arith, whole, digits_value-six parts))
 
 pub signed_amount_text-negative : (z : ℤ) → int_lt z (pos 0) ≡ true → signed_amount_text z ≡ 45 ∷ amount_text (unsigned_abs z)
 unfolding signed_amount_text

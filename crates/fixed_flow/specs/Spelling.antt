@@ -16,15 +16,11 @@ whole_of text = if is_digits 9 text then Some (digits_value 10 text) else None
 abbrev pub is_point : ℕ → Bool
 is_point byte = byte == 46
 
--- 1 to 12 digits, or these and behind a point 1 to 6 digits
-abbrev pub is_amount : List ℕ → Bool
-is_amount text = is_digits 12 (before_first is_point text) && (not (list_any is_point text) || is_digits 6 (after_first is_point text))
-
--- the parts of up to six decimals: those that are missing are zeros
-abbrev pub decimal_parts : List ℕ → ℕ
-decimal_parts decimals = digits_value 10 decimals * 10 ^ (6 - length decimals)
-
--- the parts that a text spells, whatever their number
+-- the parts that a text spells, whatever their number: 1 to 12 digits, or these and behind a point 1 to 6 decimals, of which
+-- those that are missing are zeros
 unfoldable pub amount_of : List ℕ → Option ℕ
 amount_of text =
-    if is_amount text then Some (digits_value 10 (before_first is_point text) * parts_per_vehicle + decimal_parts (after_first is_point text)) else None
+    let whole = before_first is_point text in
+    let decimals = after_first is_point text in
+    if is_digits 12 whole && (not (list_any is_point text) || is_digits 6 decimals)
+    then Some (digits_value 10 whole * parts_per_vehicle + digits_value 10 decimals * 10 ^ (6 - length decimals)) else None

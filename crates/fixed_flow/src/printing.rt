@@ -1,5 +1,5 @@
-ghost use Rattle.std.specs.Prelude.{◌≡◌, ◌≤◌, ◌∷◌, ◌++◌, length};
-ghost use Rattle.fixed_flow.specs.Printed.{amount_text, signed_amount_text, six_digits};
+ghost use Rattle.std.specs.Prelude.{◌≡◌, ◌+◌, ◌/◌, ◌%◌, ◌≤◌, ◌∷◌, ◌++◌, length, map};
+ghost use Rattle.fixed_flow.specs.Printed.{amount_text, signed_amount_text};
 
 use crate::amount::PARTS_PER_VEHICLE;
 use crate::text::Text48;
@@ -8,7 +8,7 @@ use itoa::Buffer;
 // The values of the six places behind the point.
 const PLACES: [u32; 6] = [100_000, 10_000, 1_000, 100, 10, 1];
 
-#[tactic(auto, unfolding(crate::specs::Printed::amount_text))]
+#[tactic(auto, using(crate::proofs::PrintedFacts::rest_digits), unfolding(crate::specs::Printed::amount_text))]
 pub(crate) fn put_parts(parts: u64, text: &mut Text48)
     ensures { text.new ≡ amount_text parts }
 {
@@ -29,7 +29,7 @@ pub fn put_wide(value: i128, text: &mut Text48)
     append_wide(value.unsigned_abs(), text);
 }
 
-#[tactic(auto, unfolding(crate::specs::Printed::amount_text))]
+#[tactic(auto, using(crate::proofs::PrintedFacts::rest_digits), unfolding(crate::specs::Printed::amount_text))]
 fn append_wide(parts: u128, text: &mut Text48)
     requires { length text.old ≤ 1 }
     ensures { text.new ≡ text.old ++ amount_text parts }
@@ -42,7 +42,7 @@ fn append_wide(parts: u128, text: &mut Text48)
 // Appends a point and the six decimals.
 fn append_decimals(decimals: u32, text: &mut Text48)
     requires { length text.old ≤ 41 }
-    ensures { text.new ≡ text.old ++ 46 ∷ six_digits decimals }
+    ensures { text.new ≡ text.old ++ 46 ∷ map (λ place. 48 + decimals / place % 10) PLACES }
 {
     text.push(b'.');
     for place in PLACES {

@@ -1,5 +1,6 @@
-ghost use Rattle.std.specs.Prelude.{◌≡◌, ℕ, ◌+◌, ◌-◌, ◌<◌, ◌≤◌, ◌↔◌, pos};
-ghost use Rattle.merge_rule.specs.Merge.{first_flow, first_share, second_flow, merge_of};
+ghost use Rattle.std.specs.Prelude.{◌≡◌, ℕ, ◌+◌, ◌-◌, ◌<◌, ◌≤◌, ◌↔◌, pos, ◌-ℤ◌};
+ghost use Rattle.fixed_flow.specs.Middle.{middle_of};
+ghost use Rattle.merge_rule.specs.Merge.{first_share, merge_of};
 ghost use Rattle.merge_rule.specs.Exchange.{exchanged_merge_of, IsUnrounded};
 
 use fixed_flow::share_floor;
@@ -9,9 +10,9 @@ use fixed_flow::share_floor;
 /// `p1` and `p2` are their priorities, 1 to 1,000 each in a network; of a merge with none the rule says nothing.
 pub fn merge_flow(s1: u64, s2: u64, r: u64, p1: u32, p2: u32) -> (u64, u64)
     requires { 1 ≤ p1 + p2 }
-    ensures first_rule { pos result.0 ≡ first_flow s1 s2 r p1 p2 }
-    ensures second_rule { pos result.1 ≡ second_flow s1 s2 r p1 p2 }
     ensures flows { result ≡ merge_of s1 s2 r p1 p2 }
+    ensures first_rule { r < s1 + s2 → pos result.0 ≡ middle_of (pos s1) (pos r -ℤ pos s2) (pos (first_share r p1 p2)) }
+    ensures second_rule { r < s1 + s2 → pos result.1 ≡ middle_of (pos s2) (pos r -ℤ pos s1) (pos r -ℤ pos (first_share r p1 p2)) }
 
     // What leaves a cell is at most its sending flow, and what enters is at most its receiving flow.
     ensures first_sends { result.0 ≤ s1 }

@@ -1,11 +1,8 @@
 -- What a cell sends or receives stays within what it holds, its capacity and its room.
 use Rattle.std.specs.Prelude.{Option, Some, None}
-use Rattle.std.proofs.Common.{ℕ, ◌≤◌, ◌+◌, Bool, true, false, arith}
+use Rattle.std.proofs.Common.{ℕ, ◌≤◌, ◌+◌, ◌-◌, ◌*◌, ◌/◌, Bool, true, false, arith}
 use Rattle.ordinary_link.specs.declared.space.Room.{Room}
-use Rattle.ordinary_link.specs.Sending.{sending_flow}
-use Rattle.ordinary_link.specs.Space.{space_flow, IsRoomHolding}
-use Rattle.ordinary_link.specs.Receiving.{receiving_flow}
-use Rattle.ordinary_link.specs.LinkFlow.{link_flow_of}
+use Rattle.ordinary_link.specs.Flows.{sending_flow, receiving_flow, IsRoomHolding}
 
 pub sending_flow-le-held : (n q : ℕ) (green : Bool) → sending_flow n q green ≤ n
 sending_flow-le-held n q true = omega arith
@@ -19,15 +16,9 @@ pub receiving_flow-le-capacity : (n q : ℕ) (room : Option Room) → receiving_
 receiving_flow-le-capacity n q None = omega arith
 receiving_flow-le-capacity n q (Some room) = omega arith
 
-pub add-space_flow-le-most : (n : ℕ) (room : Room) → IsRoomHolding n room → n + space_flow n room ≤ room.most
+add-space_flow-le-most : (n : ℕ) (room : Room) → IsRoomHolding n room → n + room.num * (room.most - n) / room.den ≤ room.most
 add-space_flow-le-most n room fits = grind arith
 
 pub add-receiving_flow-le-most : (n q : ℕ) (room : Room) → IsRoomHolding n room →
     n + receiving_flow n q (Some room) ≤ room.most
 add-receiving_flow-le-most n q room fits = omega (arith, add-space_flow-le-most n room fits)
-
-pub link_flow_of-le-sent : (s r : ℕ) → link_flow_of s r ≤ s
-link_flow_of-le-sent s r = omega arith
-
-pub link_flow_of-le-received : (s r : ℕ) → link_flow_of s r ≤ r
-link_flow_of-le-received s r = omega arith

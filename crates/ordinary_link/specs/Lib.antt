@@ -1,6 +1,3 @@
-pub mod Sending
-pub mod Space
-pub mod Receiving
-pub mod LinkFlow
+pub mod Flows
 pub mod Row
 pub mod Waiting

@@ -1,7 +1,6 @@
 ghost use Rattle.std.specs.Prelude.{◌≡◌, ◌≤◌, ◌+◌};
 ghost use Rattle.std.specs.Option.{ForSome};
-ghost use Rattle.ordinary_link.specs.Space.{IsRoomHolding};
-ghost use Rattle.ordinary_link.specs.Receiving.{receiving_flow};
+ghost use Rattle.ordinary_link.specs.Flows.{receiving_flow, IsRoomHolding};
 
 use crate::space::Room;
 use fixed_flow::MOST_PARTS;

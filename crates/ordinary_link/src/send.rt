@@ -1,5 +1,5 @@
 ghost use Rattle.std.specs.Prelude.{◌≡◌, ◌≤◌};
-ghost use Rattle.ordinary_link.specs.Sending.{sending_flow};
+ghost use Rattle.ordinary_link.specs.Flows.{sending_flow};
 
 /// What a cell that holds `n` parts can send in a step whose capacity is `q` parts: `S` of Daganzo
 /// (1995). A cell that is not green sends nothing.

@@ -1,5 +1,5 @@
-ghost use Rattle.std.specs.Prelude.{◌≡◌, ◌≤◌, ◌+◌};
-ghost use Rattle.ordinary_link.specs.Space.{space_flow, IsRoomHolding};
+ghost use Rattle.std.specs.Prelude.{◌≡◌, ◌≤◌, ◌+◌, ◌-◌, ◌*◌, ◌/◌};
+ghost use Rattle.ordinary_link.specs.Flows.{IsRoomHolding};
 
 use fixed_flow::MOST_PARTS;
 
@@ -20,7 +20,7 @@ impl Room {
     pub(crate) fn space_flow(self, n: u64) -> u64
         requires fits { IsRoomHolding n self }
         requires amount { self.most ≤ MOST_PARTS }
-        ensures flow { result ≡ space_flow n self }
+        ensures flow { result ≡ self.num * (self.most - n) / self.den }
         ensures in_room { n + result ≤ self.most }
     {
         let space = self.most - n;

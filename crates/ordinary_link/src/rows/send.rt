@@ -1,5 +1,5 @@
 ghost use Rattle.std.specs.Prelude.{◌≡◌, ℕ, ◌+◌, ◌<◌, ◌≤◌, false, length, slice_index, slice_index_or};
-ghost use Rattle.ordinary_link.specs.Sending.{sending_flow};
+ghost use Rattle.ordinary_link.specs.Flows.{sending_flow};
 ghost use Rattle.ordinary_link.specs.Row.{Sets};
 
 use crate::rows::marks::mark_lanes;

@@ -1,5 +1,5 @@
 use Rattle.std.proofs.Common.{◌-◌, ◌≤◌, false, length, slice_index, slice_index_or}
-use Rattle.ordinary_link.specs.Sending.{sending_flow}
+use Rattle.ordinary_link.specs.Flows.{sending_flow}
 use Rattle.ordinary_link.specs.Row.{Sets}
 use Rattle.ordinary_link.proofs.rows.send.send_row.Given as goal
 
