@@ -11,8 +11,8 @@ pub struct Nest {
     others: Vec<Thief>,
     // Numbers that the deque had no memory for, with room for those of all regions.
     refused: Vec<u32>,
-    // For how many regions in a row a number stands.
-    stretch: u32,
+    // A number stands for so many regions in a row.
+    chunk_size: u32,
 }
 
 impl Model for Nest {
@@ -24,35 +24,35 @@ impl Model for Nest {
     ghost view = { λ nest. record { members = vec_len nest.others + 1; regions = nest.own } };
 
     ghost invariant = { λ nest. All (λ regions. regions ≡ nest.own) nest.others.items × All (λ region. region < nest.own) nest.refused.items
-        × (1 ≤ nest.stretch) };
+        × (1 ≤ nest.chunk_size) };
 }
 
 impl Nest {
     ghost use Rattle.std.specs.Prelude.{◌≡◌, ◌+◌, ◌<◌, ◌≤◌, [], All, IfSome, vec_len};
 
-    pub(crate) fn new(own: Deque, others: Vec<Thief>, refused: Vec<u32>, stretch: u32) -> Nest
+    pub(crate) fn new(own: Deque, others: Vec<Thief>, refused: Vec<u32>, chunk_size: u32) -> Nest
         requires knows { All (λ regions. regions ≡ own) others.items }
         requires none { refused.items ≡ [] }
-        requires some { 1 ≤ stretch }
+        requires some { 1 ≤ chunk_size }
         ensures { result ≡ record { members = vec_len others + 1; regions = own } }
     {
         Nest {
             own,
             others,
             refused,
-            stretch,
+            chunk_size,
         }
     }
 
-    /// For how many regions a number stands, where there are so many from its own on.
-    pub fn stretch(&self) -> u32
+    /// For how many regions a number stands, where there are so many from its own on: the last chunk may be shorter.
+    pub fn chunk_size(&self) -> u32
         ensures { 1 ≤ result }
     {
-        self.stretch
+        self.chunk_size
     }
 
     /// Takes out what the member's deque holds, with at most so many pops as there are regions, and pushes in order those
-    /// multiples r of a stretch of which `r·members/regions`, rounded down, is `number`.
+    /// multiples r of the chunk size of which `r·members/regions`, rounded down, is `number`.
     pub fn fill(&mut self, number: u32, members: u32, regions: u32)
         requires made { self.old ≡ record { members = members; regions = regions } }
         requires one_of { number < members }
@@ -61,7 +61,7 @@ impl Nest {
         self.clear(regions);
         self.refused.clear();
         for region in 0..regions {
-            if region % self.stretch == 0 && keeper(region, members, regions) == number {
+            if region % self.chunk_size == 0 && keeper(region, members, regions) == number {
                 self.push(region);
             }
         }

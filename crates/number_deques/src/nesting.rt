@@ -6,8 +6,8 @@ use crate::thief::Thief;
 use no_memory::NoMemory;
 use std::alloc::Global;
 
-/// Into so many stretches the regions are cut for each member, as far as there are regions.
-const STRETCHES: u32 = 4;
+/// Into so many chunks the regions are cut for each member, as far as there are regions.
+const CHUNKS: u32 = 4;
 
 /// An empty nest for each of so many members, which hand the numbers of so many regions to each other.
 pub fn nests(alloc: Global, members: u32, regions: u32) -> Result<Vec<Nest>, NoMemory>
@@ -39,21 +39,21 @@ fn joined(
     ensures one_each { IfOk result (λ nests. vec_len nests ≡ vec_len owns) }
     ensures made { (regions : ℕ) → All (λ own. own ≡ regions) owns.items → IfOk result (λ nests. All (λ nest. nest ≡ record { members = vec_len owns; regions = regions }) nests.items) }
 {
-    let stretch = stretch_of(owns.len() as u32, regions);
+    let chunk_size = chunk_size_for(owns.len() as u32, regions);
     let mut nests = Vec::with_capacity(alloc, owns.len())?;
     while let (Some(own), Some(thieves)) = (owns.pop(), others.pop()) {
         let refused = Vec::with_capacity(alloc, regions as usize)?;
-        nests.push(Nest::new(own, thieves, refused, stretch))?;
+        nests.push(Nest::new(own, thieves, refused, chunk_size))?;
     }
     Ok(nests)
 }
 
-// For how many regions in a row a number stands: the longer they are, the less often one is popped and pushed.
-fn stretch_of(members: u32, regions: u32) -> u32
+// How many regions a chunk has: the more, the less often a number is popped and pushed.
+fn chunk_size_for(members: u32, regions: u32) -> u32
     requires { (1 ≤ members) × (members ≤ 16) }
     ensures { result ≡ max 1 (regions / (4 * members)) }
 {
-    (regions / (STRETCHES * members)).max(1)
+    (regions / (CHUNKS * members)).max(1)
 }
 
 // A deque for each member.

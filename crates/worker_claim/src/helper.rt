@@ -121,7 +121,7 @@ impl Helper {
         ensures told { AreTold (W.told_held observer.now (cut_run field.now.terms.setup.now)) (W.told_freed observer.now (cut_run field.now.terms.setup.now)) self.old.member.pass.knows.log self.new.member.pass.knows.log }
         ensures some { 1 ≤ turns_of result }
     {
-        let many = self.nest.stretch().min(field.regions() - region);
+        let many = self.nest.chunk_size().min(field.regions() - region);
         let to = region + u64::from(many).min(left) as u32;
         let made = turns(field, &mut self.member.pass, goal, region, to, observer);
         if made.ended < u64::from(many) {
