@@ -6,7 +6,7 @@ use Rattle.network_file.specs.Draft.{Draft, empty_draft}
 use Rattle.network_file.specs.Formats.{format_of}
 use Rattle.record_fields.specs.FileRecords.{file_records_of}
 use Rattle.network_file.specs.Network.{Network}
-use Rattle.network_file.specs.Reading.{completed, network_in_all, network_of, read_file, read_records}
+use Rattle.network_file.specs.Reading.{at_place, network_in_all, network_of, read_file, read_records}
 use Rattle.network_file.specs.Faults.{fault_at, refusal_at}
 use Rattle.network_file.specs.Taking.{take_record}
 use Rattle.record_fields.specs.declared.code.Code.{Code}
@@ -29,7 +29,7 @@ pub network_of-headed : (bytes : List ℕ) (header : List (List ℕ)) (rest : Li
 unfolding network_of read_file
 network_of-headed bytes header rest format all headed = rw (all, headed) refl
 
-pub read_records-none : (place : ℕ) (draft : Draft) → read_records place draft [] ≡ completed place draft
+pub read_records-none : (place : ℕ) (draft : Draft) → read_records place draft [] ≡ at_place place (network_in_all draft)
 unfolding read_records
 read_records-none place draft = refl
 
@@ -46,11 +46,10 @@ read_records-refused place draft fields rest (Fault code) whole same refused = s
 read_records-refused place draft fields rest NoMemory whole same refused = tt
 
 -- the network of a draft, or its refusal, where all records are taken
-pub completed-network : (place : ℕ) (draft : Draft) (net : Network) → network_in_all draft ≡ Ok net → completed place draft ≡ Ok net
-unfolding completed
-completed-network place draft net whole = rw whole refl
+pub network_in_all-made : (place : ℕ) (draft : Draft) (net : Network) → network_in_all draft ≡ Ok net → at_place place (network_in_all draft) ≡ Ok net
+network_in_all-made place draft net whole = rw whole refl
 
-pub completed-refused : (place : ℕ) (draft : Draft) (refusal : Refused Code) → Answers {A = Network} (Err refusal) (network_in_all draft) → IsRefusal (refusal_at place refusal) (completed place draft)
-unfolding completed
-completed-refused place draft (Fault code) refused = rw refused refl
-completed-refused place draft NoMemory refused = tt
+pub network_in_all-refused : (place : ℕ) (draft : Draft) (refusal : Refused Code) → Answers {A = Network} (Err refusal) (network_in_all draft)
+    → IsRefusal (refusal_at place refusal) (at_place place (network_in_all draft))
+network_in_all-refused place draft (Fault code) refused = rw refused refl
+network_in_all-refused place draft NoMemory refused = tt

@@ -1,6 +1,6 @@
 -- What every network keeps is kept by one more cell, connector or record of the plan.
 use Rattle.std.proofs.Common.{ℕ, zero, suc, ◌≡◌, ◌<◌, ◌≤◌, ◌+◌, Bool, true, false, List, [], ◌∷◌, ◌++◌, Option, Some, None, cond, ◌∙◌, refl, ap, length, arith, length-append, eqb, map}
-use Rattle.std.specs.Prelude.{All, count_by, slice_get, ◌||◌}
+use Rattle.std.specs.Prelude.{All, count_by, is_some, slice_get, ◌||◌}
 use Rattle.std.specs.List.{list_any}
 use Rattle.std.specs.Cmp.Lexicographic.{nat_list_eq_equiv}
 use Rattle.std.proofs.lemmas.Bool.{eqb-true}
@@ -10,10 +10,10 @@ use Rattle.std.proofs.lemmas.List.Folds.{list_any-append}
 use Rattle.std.proofs.lemmas.List.Sums.{sum_by_push, sum_by-cons}
 use Rattle.std.proofs.lemmas.Map.Keys.{IsDistinct-push}
 use Rattle.std.proofs.lemmas.Option.{IfSome_then, slice_get_within}
-use Rattle.signal_plan.specs.Counts.{counts_of, demand_count, limit_count, signal_count, speed_count, turn_count}
-use Rattle.signal_plan.specs.Green.{is_signalled}
+use Rattle.signal_plan.specs.Counts.{counts_of}
+use Rattle.signal_plan.specs.Green.{signal_of}
 use Rattle.signal_plan.specs.Limits.{most_steps}
-use Rattle.signal_plan.specs.Records.{CellRecords, DemandRecord, LimitRecord, PlannedCell, PlanRecords, SignalRecord, SpeedRecord, TurnRecord, bare_cell, planned_at, records_at, with_cell, with_demand, with_limit, with_own_demand, with_own_limit, with_own_signal, with_own_speed, with_own_turn, with_records, with_signal, with_speed, with_turn}
+use Rattle.signal_plan.specs.Records.{CellRecords, DemandRecord, LimitRecord, PlannedCell, PlanRecords, SignalRecord, SpeedRecord, TurnRecord, bare_cell, planned_at, records_at, with_cell, with_demand, with_limit, with_records, with_signal, with_speed, with_turn}
 use Rattle.signal_plan.specs.Sound.{IsSoundSpeed, IsSoundTurn}
 use Rattle.signal_plan.specs.declared.plan_counts.PlanCounts.{PlanCounts}
 use Rattle.signal_plan.proofs.Counting.{counts_of-with_cell, counts_of-with_demand, counts_of-with_limit, counts_of-with_signal, counts_of-with_speed, counts_of-with_turn}
@@ -189,13 +189,13 @@ turns-there : (cells : List Cell) (connectors : List Connector) (format : ℕ) (
 turns-there cells connectors format plan cell sound there = sound.turns_diverge cell (bare_cell 0) (omega (arith, sound.planned.one_each))
 
 -- what every network keeps, with other records of a cell
-with_own : (format : ℕ) (cells : List Cell) (connectors : List Connector) (plan : PlanRecords) (cell : ℕ) (own : CellRecords) (counts : PlanCounts)
-    → HasSoundParts format cells connectors plan → IsPlannedCell cells (record (planned_at plan cell) { records = own })
-    → counts_of (with_records plan cell own) ≡ counts → counts.limits ≤ most_records format → counts.demands ≤ most_records format → counts.turns ≤ most_records format
-    → counts.speeds ≤ most_records format → (format ≡ 1 → counts.turns ≡ 0) → (format ≤ 2 → counts.speeds ≡ 0) → All (λ turn. list_any (diverges_from turn.cell) connectors ≡ true) own.turns
-    → HasSoundParts format cells connectors (with_records plan cell own)
-with_own format cells connectors plan cell own counts sound fits are few_limits few_demands few_turns few_speeds no_turns no_speeds diverge =
-    let changed : PlannedCell = record (planned_at plan cell) { records = own } in
+with_own : (format : ℕ) (cells : List Cell) (connectors : List Connector) (plan : PlanRecords) (cell : ℕ) (added : CellRecords → CellRecords) (counts : PlanCounts)
+    → HasSoundParts format cells connectors plan → IsPlannedCell cells (record (planned_at plan cell) { records = added (records_at plan cell) })
+    → counts_of (with_records plan cell added) ≡ counts → counts.limits ≤ most_records format → counts.demands ≤ most_records format → counts.turns ≤ most_records format
+    → counts.speeds ≤ most_records format → (format ≡ 1 → counts.turns ≡ 0) → (format ≤ 2 → counts.speeds ≡ 0) → All (λ turn. list_any (diverges_from turn.cell) connectors ≡ true) (added (records_at plan cell)).turns
+    → HasSoundParts format cells connectors (with_records plan cell added)
+with_own format cells connectors plan cell added counts sound fits are few_limits few_demands few_turns few_speeds no_turns no_speeds diverge =
+    let changed : PlannedCell = record (planned_at plan cell) { records = added (records_at plan cell) } in
     record {
       few_cells = sound.few_cells;
       few_connectors = sound.few_connectors;
@@ -219,13 +219,12 @@ with_own format cells connectors plan cell own counts sound fits are few_limits 
     }
 
 pub HasSoundParts-add_signal : (format : ℕ) (cells : List Cell) (connectors : List Connector) (plan : PlanRecords) (signal : SignalRecord)
-    → HasSoundParts format cells connectors plan → signal.cell < length cells → is_exit_at cells signal.cell ≡ false → is_signalled plan signal.cell ≡ false
+    → HasSoundParts format cells connectors plan → signal.cell < length cells → is_exit_at cells signal.cell ≡ false → is_some (signal_of plan signal.cell) ≡ false
     → HasSoundParts format cells connectors (with_signal plan signal)
 HasSoundParts-add_signal format cells connectors plan signal sound there sends first =
-    let own = records_at plan signal.cell in
     let old = planned-there format cells plan signal.cell sound.planned there in
     let old_turns = turns-there cells connectors format plan signal.cell sound there in
-    with_own format cells connectors plan signal.cell (with_own_signal own signal) (record (counts_of plan) { signals = signal_count plan + 1 }) sound (record {
+    with_own format cells connectors plan signal.cell (λ own. record own { signal = Some signal }) (record (counts_of plan) { signals = (counts_of plan).signals + 1 }) sound (record {
       capacity = old.capacity;
       signal = (there, sends);
       limits = old.limits;
@@ -236,13 +235,13 @@ HasSoundParts-add_signal format cells connectors plan signal sound there sends f
     sound.planned.few_speeds sound.planned.no_turns sound.planned.no_speeds old_turns
 
 pub HasSoundParts-add_limit : (format : ℕ) (cells : List Cell) (connectors : List Connector) (plan : PlanRecords) (limit : LimitRecord)
-    → HasSoundParts format cells connectors plan → limit.cell < length cells → limit_count plan < most_records format → limit.to ≤ most_steps → limit.capacity ≤ most_capacity
+    → HasSoundParts format cells connectors plan → limit.cell < length cells → (counts_of plan).limits < most_records format → limit.to ≤ most_steps → limit.capacity ≤ most_capacity
     → HasSoundParts format cells connectors (with_limit plan limit)
 HasSoundParts-add_limit format cells connectors plan limit sound there room in_time low =
     let own = records_at plan limit.cell in
     let old = planned-there format cells plan limit.cell sound.planned there in
     let old_turns = turns-there cells connectors format plan limit.cell sound there in
-    with_own format cells connectors plan limit.cell (with_own_limit own limit) (record (counts_of plan) { limits = limit_count plan + 1 }) sound (record {
+    with_own format cells connectors plan limit.cell (λ own. record own { limits = own.limits ++ limit ∷ [] }) (record (counts_of plan) { limits = (counts_of plan).limits + 1 }) sound (record {
       capacity = old.capacity;
       signal = old.signal;
       limits = All-push (λ l. (l.to ≤ most_steps) × (l.capacity ≤ most_capacity)) own.limits limit old.limits (in_time, low);
@@ -253,13 +252,13 @@ HasSoundParts-add_limit format cells connectors plan limit sound there room in_t
     sound.planned.few_speeds sound.planned.no_turns sound.planned.no_speeds old_turns
 
 pub HasSoundParts-add_demand : (format : ℕ) (cells : List Cell) (connectors : List Connector) (plan : PlanRecords) (demand : DemandRecord)
-    → HasSoundParts format cells connectors plan → demand.cell < length cells → demand_count plan < most_records format → is_gate_at cells demand.cell ≡ true → demand.to ≤ most_steps
+    → HasSoundParts format cells connectors plan → demand.cell < length cells → (counts_of plan).demands < most_records format → is_gate_at cells demand.cell ≡ true → demand.to ≤ most_steps
     → HasSoundParts format cells connectors (with_demand plan demand)
 HasSoundParts-add_demand format cells connectors plan demand sound there room gate in_time =
     let own = records_at plan demand.cell in
     let old = planned-there format cells plan demand.cell sound.planned there in
     let old_turns = turns-there cells connectors format plan demand.cell sound there in
-    with_own format cells connectors plan demand.cell (with_own_demand own demand) (record (counts_of plan) { demands = demand_count plan + 1 }) sound (record {
+    with_own format cells connectors plan demand.cell (λ own. record own { demands = own.demands ++ demand ∷ [] }) (record (counts_of plan) { demands = (counts_of plan).demands + 1 }) sound (record {
       capacity = old.capacity;
       signal = old.signal;
       limits = old.limits;
@@ -270,14 +269,14 @@ HasSoundParts-add_demand format cells connectors plan demand sound there room ga
     sound.planned.few_speeds sound.planned.no_turns sound.planned.no_speeds old_turns
 
 pub HasSoundParts-add_turn : (format : ℕ) (cells : List Cell) (connectors : List Connector) (plan : PlanRecords) (turn : TurnRecord)
-    → HasSoundParts format cells connectors plan → turn.cell < length cells → 2 ≤ format → turn_count plan < most_records format → list_any (diverges_from turn.cell) connectors ≡ true
+    → HasSoundParts format cells connectors plan → turn.cell < length cells → 2 ≤ format → (counts_of plan).turns < most_records format → list_any (diverges_from turn.cell) connectors ≡ true
     → turn.to ≤ most_steps → IsSoundTurn turn
     → HasSoundParts format cells connectors (with_turn plan turn)
 HasSoundParts-add_turn format cells connectors plan turn sound there second room diverges in_time within =
     let own = records_at plan turn.cell in
     let old = planned-there format cells plan turn.cell sound.planned there in
     let old_turns = turns-there cells connectors format plan turn.cell sound there in
-    with_own format cells connectors plan turn.cell (with_own_turn own turn) (record (counts_of plan) { turns = turn_count plan + 1 }) sound (record {
+    with_own format cells connectors plan turn.cell (λ own. record own { turns = own.turns ++ turn ∷ [] }) (record (counts_of plan) { turns = (counts_of plan).turns + 1 }) sound (record {
       capacity = old.capacity;
       signal = old.signal;
       limits = old.limits;
@@ -288,14 +287,14 @@ HasSoundParts-add_turn format cells connectors plan turn sound there second room
     sound.planned.few_speeds (λ first. absurd (omega (arith, first, second))) sound.planned.no_speeds (All-push (λ t. list_any (diverges_from t.cell) connectors ≡ true) own.turns turn old_turns diverges)
 
 pub HasSoundParts-add_speed : (format : ℕ) (cells : List Cell) (connectors : List Connector) (plan : PlanRecords) (speed : SpeedRecord)
-    → HasSoundParts format cells connectors plan → speed.cell < length cells → 3 ≤ format → speed_count plan < most_records format → is_road_at cells speed.cell ≡ true
+    → HasSoundParts format cells connectors plan → speed.cell < length cells → 3 ≤ format → (counts_of plan).speeds < most_records format → is_road_at cells speed.cell ≡ true
     → speed.to ≤ most_steps → IsSoundSpeed speed
     → HasSoundParts format cells connectors (with_speed plan speed)
 HasSoundParts-add_speed format cells connectors plan speed sound there third room road in_time within =
     let own = records_at plan speed.cell in
     let old = planned-there format cells plan speed.cell sound.planned there in
     let old_turns = turns-there cells connectors format plan speed.cell sound there in
-    with_own format cells connectors plan speed.cell (with_own_speed own speed) (record (counts_of plan) { speeds = speed_count plan + 1 }) sound (record {
+    with_own format cells connectors plan speed.cell (λ own. record own { speeds = own.speeds ++ speed ∷ [] }) (record (counts_of plan) { speeds = (counts_of plan).speeds + 1 }) sound (record {
       capacity = old.capacity;
       signal = old.signal;
       limits = old.limits;

@@ -1,8 +1,8 @@
 -- What the fields of a record say that name a cell, by the cells and connectors so far.
-use Rattle.std.specs.Prelude.{ℕ, List, not, ◌||◌, eqb, false, Option, Result, Ok, ok_or, is_none}
+use Rattle.std.specs.Prelude.{ℕ, List, not, ◌||◌, eqb, false, Option, Result, Ok, ok_or, is_none, is_some}
 use Rattle.std.specs.List.{list_any}
 use Rattle.std.specs.Option.{option_map_or}
-use Rattle.signal_plan.specs.Green.{is_signalled}
+use Rattle.signal_plan.specs.Green.{signal_of}
 use Rattle.signal_plan.specs.Records.{PlanRecords}
 use Rattle.record_fields.specs.CellName.{is_name}
 use Rattle.record_fields.specs.Checks.{◌>>=◌, ◌>>◌, must}
@@ -47,7 +47,7 @@ unfoldable pub signal_cell : List Cell → PlanRecords → List ℕ → Result �
 signal_cell cells plan text = do
   cell ← known_cell cells text
   must (not (is_exit_at cells cell)) WrongKind
-  must (not (is_signalled plan cell)) Repeated
+  must (not (is_some (signal_of plan cell))) Repeated
   Ok cell
 
 -- the gate of a demand

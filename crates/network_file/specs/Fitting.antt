@@ -1,14 +1,14 @@
--- Which records a draft can take, and the draft with one of them.
-use Rattle.std.specs.Prelude.{◌≡◌, ℕ, ◌<◌, ◌≤◌, length, All, None, is_none, true, false}
+-- Which records a draft can take.
+use Rattle.std.specs.Prelude.{◌≡◌, ℕ, ◌<◌, ◌≤◌, length, All, None, is_none, is_some, true, false}
 use Rattle.std.specs.List.{list_any}
-use Rattle.signal_plan.specs.Counts.{demand_count, limit_count, speed_count, turn_count}
-use Rattle.signal_plan.specs.Green.{is_signalled}
+use Rattle.signal_plan.specs.Counts.{counts_of}
+use Rattle.signal_plan.specs.Green.{signal_of}
 use Rattle.signal_plan.specs.Limits.{most_steps}
 use Rattle.signal_plan.specs.Records.{DemandRecord, LimitRecord, SignalRecord, SpeedRecord, TurnRecord}
 use Rattle.signal_plan.specs.Sound.{IsSoundDemand, IsSoundSignal, IsSoundSpeed, IsSoundTurn}
 use Rattle.network_file.specs.Cells.{cell_named, is_exit_at, is_gate_at, is_road_at}
 use Rattle.network_file.specs.Connectors.{diverges_from, downstream_of, leads_into, leads_out_of, upstream_of}
-use Rattle.network_file.specs.Draft.{Draft, with_steps, add_cell, add_connector, add_demand, add_limit, add_region, add_signal, add_speed, add_turn}
+use Rattle.network_file.specs.Draft.{Draft}
 use Rattle.network_file.specs.Formats.{most_records}
 use Rattle.network_file.specs.Network.{IsSoundCell, IsSoundConnector}
 use Rattle.record_fields.specs.Regions.{region_in}
@@ -43,18 +43,18 @@ pub record FitsConnector (draft : Draft) (connector : Connector) : Type 0 where
 pub record FitsSignal (draft : Draft) (signal : SignalRecord) : Type 0 where
   pub there : signal.cell < length draft.cells
   pub sends : is_exit_at draft.cells signal.cell ≡ false
-  pub first : is_signalled draft.plan signal.cell ≡ false
+  pub first : is_some (signal_of draft.plan signal.cell) ≡ false
   pub sound : IsSoundSignal signal
 
 pub record FitsLimit (draft : Draft) (limit : LimitRecord) : Type 0 where
-  pub room : limit_count draft.plan < most_records draft.format
+  pub room : (counts_of draft.plan).limits < most_records draft.format
   pub there : limit.cell < length draft.cells
   pub some_step : limit.from < limit.to
   pub in_time : limit.to ≤ most_steps
   pub low : limit.capacity ≤ most_capacity
 
 pub record FitsDemand (draft : Draft) (demand : DemandRecord) : Type 0 where
-  pub room : demand_count draft.plan < most_records draft.format
+  pub room : (counts_of draft.plan).demands < most_records draft.format
   pub there : demand.cell < length draft.cells
   pub gate : is_gate_at draft.cells demand.cell ≡ true
   pub in_time : demand.to ≤ most_steps
@@ -63,7 +63,7 @@ pub record FitsDemand (draft : Draft) (demand : DemandRecord) : Type 0 where
 -- turning shares of a diverge
 pub record FitsTurn (draft : Draft) (turn : TurnRecord) : Type 0 where
   pub second_format : 2 ≤ draft.format
-  pub room : turn_count draft.plan < most_records draft.format
+  pub room : (counts_of draft.plan).turns < most_records draft.format
   pub there : turn.cell < length draft.cells
   pub diverges : list_any (diverges_from turn.cell) draft.connectors ≡ true
   pub in_time : turn.to ≤ most_steps
@@ -72,7 +72,7 @@ pub record FitsTurn (draft : Draft) (turn : TurnRecord) : Type 0 where
 -- the speed in a road
 pub record FitsSpeed (draft : Draft) (speed : SpeedRecord) : Type 0 where
   pub third_format : 3 ≤ draft.format
-  pub room : speed_count draft.plan < most_records draft.format
+  pub room : (counts_of draft.plan).speeds < most_records draft.format
   pub there : speed.cell < length draft.cells
   pub road : is_road_at draft.cells speed.cell ≡ true
   pub in_time : speed.to ≤ most_steps
@@ -96,15 +96,3 @@ FitsEntry draft (says.Demand demand) = FitsDemand draft demand
 FitsEntry draft (says.Turn turn) = FitsTurn draft turn
 FitsEntry draft (says.Speed speed) = FitsSpeed draft speed
 FitsEntry draft (says.Region region) = FitsRegion draft region
-
--- the draft with what a record says
-abbrev pub with_entry : Draft → Entry → Draft
-with_entry draft (says.Steps steps) = with_steps draft steps
-with_entry draft (says.Cell cell capacity) = add_cell draft cell capacity
-with_entry draft (says.Connector connector) = add_connector draft connector
-with_entry draft (says.Signal signal) = add_signal draft signal
-with_entry draft (says.Limit limit) = add_limit draft limit
-with_entry draft (says.Demand demand) = add_demand draft demand
-with_entry draft (says.Turn turn) = add_turn draft turn
-with_entry draft (says.Speed speed) = add_speed draft speed
-with_entry draft (says.Region region) = add_region draft region

@@ -2,7 +2,7 @@
 use Rattle.std.specs.Prelude.{◌≡◌, ℕ, ◌+◌, ◌<◌, ◌≤◌, ◌⊎◌, List, [], length, map, eqb, bytes_eq, All, count_by, sum_by, IfSome, true, false, ⊤}
 use Rattle.std.specs.List.{IsDistinct, list_any}
 use Rattle.fixed_flow.specs.Limits.{most_parts, most_ratio}
-use Rattle.signal_plan.specs.Counts.{demand_count, limit_count, speed_count, turn_count}
+use Rattle.signal_plan.specs.Counts.{counts_of}
 use Rattle.signal_plan.specs.Records.{PlannedCell, PlanRecords}
 use Rattle.signal_plan.specs.Sound.{IsSoundSpeed, IsSoundTurn}
 use Rattle.signal_plan.specs.Total.{total_demand}
@@ -37,7 +37,7 @@ pub record IsSoundRoad (room num den first : ℕ) : Type 0 where
   pub small : den ≤ most_ratio
   pub within : first ≤ room
 
--- what a cell of this kind may hold at first: an exit starts empty
+-- a cell of this kind within the ranges of the format: a road starts within its room, an exit empty
 abbrev pub IsSoundKind : Kind → (first : ℕ) → Type 0
 IsSoundKind (Road room num den) first = IsSoundRoad room num den first
 IsSoundKind Gate first = ⊤
@@ -70,14 +70,14 @@ pub record IsPlannedCell (cells : List Cell) (planned : PlannedCell) : Type 0 wh
 pub record IsPlanOf (format : ℕ) (cells : List Cell) (plan : PlanRecords) : Type 0 where
   pub one_each : length plan.cells ≡ length cells
   pub planned : All (IsPlannedCell cells) plan.cells
-  pub few_limits : limit_count plan ≤ most_records format
-  pub few_demands : demand_count plan ≤ most_records format
-  pub few_turns : turn_count plan ≤ most_records format
-  pub few_speeds : speed_count plan ≤ most_records format
+  pub few_limits : (counts_of plan).limits ≤ most_records format
+  pub few_demands : (counts_of plan).demands ≤ most_records format
+  pub few_turns : (counts_of plan).turns ≤ most_records format
+  pub few_speeds : (counts_of plan).speeds ≤ most_records format
   -- format 1 has no turns
-  pub no_turns : format ≡ 1 → turn_count plan ≡ 0
+  pub no_turns : format ≡ 1 → (counts_of plan).turns ≡ 0
   -- format 3 alone has speeds
-  pub no_speeds : format ≤ 2 → speed_count plan ≡ 0
+  pub no_speeds : format ≤ 2 → (counts_of plan).speeds ≡ 0
 
 -- what holds of the parts of a network, and of a draft of one at each record
 pub record HasSoundParts (format : ℕ) (cells : List Cell) (connectors : List Connector) (plan : PlanRecords) : Type 0 where

@@ -1,5 +1,5 @@
 -- The network that a file is, or its first fault.
-use Rattle.std.specs.Prelude.{ℕ, ◌+◌, ◌==◌, not, List, [], ◌∷◌, Option, Some, None, Result, Ok, Err, if◌then◌else◌, nat_le, nat_lt, ok_or, length}
+use Rattle.std.specs.Prelude.{ℕ, ◌+◌, ◌==◌, not, List, [], ◌∷◌, Result, Ok, Err, if◌then◌else◌, nat_le, nat_lt, ok_or, length}
 use Rattle.network_file.specs.Draft.{Draft, empty_draft}
 use Rattle.record_fields.specs.Checks.{◌>>=◌, ◌>>◌, must}
 use Rattle.network_file.specs.Cutting.{has_no_gap}
@@ -38,29 +38,19 @@ abbrev pub at_place : {A : Type 0} → (place : ℕ) → Result A Code → Resul
 at_place place (Ok value) = Ok value
 at_place place (Err code) = Err (fault_at place code)
 
--- the network of a draft with all records taken, or its fault at a place
-unfoldable pub completed : (place : ℕ) → Draft → Result Network NetFault
-completed place draft = at_place place (network_in_all draft)
-
--- what follows the record at a place, if it has no fault
-abbrev pub on_taken : (place : ℕ) → Result Draft Code → (Draft → Result Network NetFault) → Result Network NetFault
-on_taken place (Ok draft) next = next draft
-on_taken place (Err code) next = Err (fault_at place code)
-
--- the records from this place on, taken one after the other
+-- the records from this place on, taken one after the other; a fault of all together stands behind the last
 unfoldable pub read_records : (place : ℕ) → Draft → List (List (List ℕ)) → Result Network NetFault
-read_records place draft [] = completed place draft
-read_records place draft (fields ∷ rest) = on_taken place (take_record draft fields) (λ more. read_records (place + 1) more rest)
-
--- the records behind a header that names this format
-abbrev pub read_headed : Option ℕ → List (List (List ℕ)) → Result Network NetFault
-read_headed None rest = Err (fault_at 1 NoHeader)
-read_headed (Some format) rest = read_records 2 (empty_draft format) rest
+read_records place draft [] = at_place place (network_in_all draft)
+read_records place draft (fields ∷ rest) = do
+  more ← at_place place (take_record draft fields)
+  read_records (place + 1) more rest
 
 -- the network of a list of records, of which the first is the header
 unfoldable pub read_file : List (List (List ℕ)) → Result Network NetFault
 read_file [] = Err (fault_at 1 NoHeader)
-read_file (header ∷ rest) = read_headed (format_of header) rest
+read_file (header ∷ rest) = do
+  format ← at_place 1 (ok_or (format_of header) NoHeader)
+  read_records 2 (empty_draft format) rest
 
 -- the network that a file is, or its first fault
 unfoldable pub network_of : List ℕ → Result Network NetFault

@@ -1,10 +1,10 @@
 -- What each kind of record adds to the draft, or the first fault that it has there.
 use Rattle.std.specs.Prelude.{ℕ, ◌-◌, ◌==◌, List, Some, None, Result, Ok, is_none, nat_lt, length, ok_or}
 use Rattle.fixed_flow.specs.Limits.{most_parts, most_ratio}
-use Rattle.signal_plan.specs.Counts.{demand_count, limit_count, speed_count, turn_count}
+use Rattle.signal_plan.specs.Counts.{counts_of}
 use Rattle.signal_plan.specs.Limits.{most_steps}
 use Rattle.record_fields.specs.Checks.{◌>>=◌, ◌>>◌, must}
-use Rattle.network_file.specs.Draft.{Draft, with_steps, add_cell, add_connector, add_demand, add_limit, add_region, add_signal, add_speed, add_turn}
+use Rattle.network_file.specs.Draft.{Draft, with_entry}
 use Rattle.record_fields.specs.Fields.{field, whole_within, range_within, ratio, weights, amount_within}
 use Rattle.record_fields.specs.RecordKinds.{field_count, record_kind_of}
 use Rattle.network_file.specs.CellFields.{new_name, known_cell, upstream, downstream, signal_cell, demand_gate, turn_cell, speed_road, region_cell}
@@ -14,6 +14,7 @@ use Rattle.network_file.specs.declared.cell.Kind.TheVariants as kind
 use Rattle.record_fields.specs.declared.code.Code.{Code}
 use Rattle.record_fields.specs.declared.code.Code.TheVariants.{BadKind, BadCount, TooMany, Repeated}
 use Rattle.network_file.specs.declared.connector.Connector.TheVariants as connector
+use Rattle.network_file.specs.declared.entry.Entry.TheVariants as says
 use Rattle.record_fields.specs.declared.record_kind.RecordKind.{RecordKind}
 use Rattle.record_fields.specs.declared.record_kind.RecordKind.TheVariants.{Steps, Road, Gate, Exit, Link, Merge, Diverge, Signal, Limit, Demand, Turn, Region, Speed}
 
@@ -27,17 +28,17 @@ taken_before Link draft = length draft.connectors
 taken_before Merge draft = length draft.connectors
 taken_before Diverge draft = length draft.connectors
 taken_before Signal draft = 0
-taken_before Limit draft = limit_count draft.plan
-taken_before Demand draft = demand_count draft.plan
-taken_before Turn draft = turn_count draft.plan
+taken_before Limit draft = (counts_of draft.plan).limits
+taken_before Demand draft = (counts_of draft.plan).demands
+taken_before Turn draft = (counts_of draft.plan).turns
 taken_before Region draft = 0
-taken_before Speed draft = speed_count draft.plan
+taken_before Speed draft = (counts_of draft.plan).speeds
 
 unfoldable pub take_steps : Draft → List (List ℕ) → Result Draft Code
 take_steps draft fields = do
   must (is_none draft.steps) Repeated
   steps ← whole_within 1 most_steps (field fields 1)
-  Ok (with_steps draft steps)
+  Ok (with_entry draft (says.Steps steps))
 
 unfoldable pub take_road : Draft → List (List ℕ) → Result Draft Code
 take_road draft fields = do
@@ -46,26 +47,26 @@ take_road draft fields = do
   capacity ← amount_within most_capacity (field fields 3)
   (num, den) ← ratio most_ratio (field fields 4) (field fields 5)
   first ← amount_within room (field fields 6)
-  Ok (add_cell draft (record { name = name; kind = kind.Road room num den; first = first }) capacity)
+  Ok (with_entry draft (says.Cell (record { name = name; kind = kind.Road room num den; first = first }) capacity))
 
 unfoldable pub take_gate : Draft → List (List ℕ) → Result Draft Code
 take_gate draft fields = do
   name ← new_name draft.cells (field fields 1)
   capacity ← amount_within most_capacity (field fields 2)
   first ← amount_within most_parts (field fields 3)
-  Ok (add_cell draft (record { name = name; kind = kind.Gate; first = first }) capacity)
+  Ok (with_entry draft (says.Cell (record { name = name; kind = kind.Gate; first = first }) capacity))
 
 unfoldable pub take_exit : Draft → List (List ℕ) → Result Draft Code
 take_exit draft fields = do
   name ← new_name draft.cells (field fields 1)
   capacity ← amount_within most_capacity (field fields 2)
-  Ok (add_cell draft (record { name = name; kind = kind.Exit; first = 0 }) capacity)
+  Ok (with_entry draft (says.Cell (record { name = name; kind = kind.Exit; first = 0 }) capacity))
 
 unfoldable pub take_link : Draft → List (List ℕ) → Result Draft Code
 take_link draft fields = do
   up ← upstream draft.cells draft.connectors None (field fields 1)
   down ← downstream draft.cells draft.connectors None (field fields 2)
-  Ok (add_connector draft (connector.Link up down))
+  Ok (with_entry draft (says.Connector (connector.Link up down)))
 
 unfoldable pub take_merge : Draft → List (List ℕ) → Result Draft Code
 take_merge draft fields = do
@@ -73,7 +74,7 @@ take_merge draft fields = do
   up2 ← upstream draft.cells draft.connectors (Some up1) (field fields 2)
   down ← downstream draft.cells draft.connectors None (field fields 3)
   (p1, p2) ← weights most_ratio (field fields 4) (field fields 5)
-  Ok (add_connector draft (connector.Merge up1 up2 down p1 p2))
+  Ok (with_entry draft (says.Connector (connector.Merge up1 up2 down p1 p2)))
 
 unfoldable pub take_diverge : Draft → List (List ℕ) → Result Draft Code
 take_diverge draft fields = do
@@ -81,7 +82,7 @@ take_diverge draft fields = do
   down1 ← downstream draft.cells draft.connectors None (field fields 2)
   down2 ← downstream draft.cells draft.connectors (Some down1) (field fields 3)
   (b1, b2) ← weights most_ratio (field fields 4) (field fields 5)
-  Ok (add_connector draft (connector.Diverge up down1 down2 b1 b2))
+  Ok (with_entry draft (says.Connector (connector.Diverge up down1 down2 b1 b2)))
 
 unfoldable pub take_signal : Draft → List (List ℕ) → Result Draft Code
 take_signal draft fields = do
@@ -89,41 +90,41 @@ take_signal draft fields = do
   cycle ← whole_within 1 most_steps (field fields 2)
   offset ← whole_within 0 (cycle - 1) (field fields 3)
   (from, to) ← range_within cycle (field fields 4) (field fields 5)
-  Ok (add_signal draft (record { cell = cell; cycle = cycle; offset = offset; from = from; to = to }))
+  Ok (with_entry draft (says.Signal (record { cell = cell; cycle = cycle; offset = offset; from = from; to = to })))
 
 unfoldable pub take_limit : Draft → List (List ℕ) → Result Draft Code
 take_limit draft fields = do
   cell ← known_cell draft.cells (field fields 1)
   (from, to) ← range_within most_steps (field fields 2) (field fields 3)
   capacity ← amount_within most_capacity (field fields 4)
-  Ok (add_limit draft (record { cell = cell; from = from; to = to; capacity = capacity }))
+  Ok (with_entry draft (says.Limit (record { cell = cell; from = from; to = to; capacity = capacity })))
 
 unfoldable pub take_demand : Draft → List (List ℕ) → Result Draft Code
 take_demand draft fields = do
   gate ← demand_gate draft.cells (field fields 1)
   (from, to) ← range_within most_steps (field fields 2) (field fields 3)
   amount ← amount_within most_parts (field fields 4)
-  Ok (add_demand draft (record { cell = gate; from = from; to = to; amount = amount }))
+  Ok (with_entry draft (says.Demand (record { cell = gate; from = from; to = to; amount = amount })))
 
 unfoldable pub take_turn : Draft → List (List ℕ) → Result Draft Code
 take_turn draft fields = do
   cell ← turn_cell draft.cells draft.connectors (field fields 1)
   (from, to) ← range_within most_steps (field fields 2) (field fields 3)
   (b1, b2) ← weights most_ratio (field fields 4) (field fields 5)
-  Ok (add_turn draft (record { cell = cell; from = from; to = to; b1 = b1; b2 = b2 }))
+  Ok (with_entry draft (says.Turn (record { cell = cell; from = from; to = to; b1 = b1; b2 = b2 })))
 
 unfoldable pub take_region : Draft → List (List ℕ) → Result Draft Code
 take_region draft fields = do
   cell ← region_cell draft.cells draft.regions (field fields 1)
   number ← whole_within 0 (most_regions - 1) (field fields 2)
-  Ok (add_region draft (record { cell = cell; number = number }))
+  Ok (with_entry draft (says.Region (record { cell = cell; number = number })))
 
 unfoldable pub take_speed : Draft → List (List ℕ) → Result Draft Code
 take_speed draft fields = do
   road ← speed_road draft.cells (field fields 1)
   (from, to) ← range_within most_steps (field fields 2) (field fields 3)
   (num, den) ← ratio most_ratio (field fields 4) (field fields 5)
-  Ok (add_speed draft (record { cell = road; from = from; to = to; num = num; den = den }))
+  Ok (with_entry draft (says.Speed (record { cell = road; from = from; to = to; num = num; den = den })))
 
 abbrev pub take_kind : RecordKind → Draft → List (List ℕ) → Result Draft Code
 take_kind Steps = take_steps

@@ -1,7 +1,7 @@
-ghost use Rattle.std.specs.Prelude.{◌≡◌, ◌<◌, ◌≢◌, None, IfOk, true, false, length};
+ghost use Rattle.std.specs.Prelude.{◌≡◌, ◌<◌, ◌≢◌, None, IfOk, true, false, is_some, length};
 ghost use Rattle.std.specs.Option.{ForSome};
 ghost use Rattle.std.specs.List.{list_any};
-ghost use Rattle.signal_plan.specs.Green.{is_signalled};
+ghost use Rattle.signal_plan.specs.Green.{signal_of};
 ghost use Rattle.record_fields.specs.Regions.{region_in};
 ghost use Rattle.network_file.specs.Cells.{cell_named, is_exit_at, is_gate_at, is_road_at};
 ghost use Rattle.network_file.specs.CellFields.{demand_gate, downstream, known_cell, new_name, region_cell, signal_cell, speed_road, turn_cell, upstream};
@@ -94,7 +94,7 @@ pub(crate) fn signal_cell(cells: &CellTable, plan: &Plan, text: &[u8]) -> Result
     ensures value { result ≡ signal_cell cells.now plan.now text.now }
     ensures there { IfOk result (λ cell. cell < length cells.now) }
     ensures sends { IfOk result (λ cell. is_exit_at cells.now cell ≡ false) }
-    ensures first_signal { IfOk result (λ cell. is_signalled plan.now cell ≡ false) }
+    ensures first_signal { IfOk result (λ cell. is_some (signal_of plan.now cell) ≡ false) }
 {
     let cell = known_cell(cells, text)?;
     if cells.is_exit(cell) {

@@ -1,6 +1,7 @@
 ghost use Rattle.std.specs.Prelude.{◌≡◌, ◌≤◌, IfOk, length};
-ghost use Rattle.network_file.specs.Draft.{add_cell, add_connector, add_demand, add_limit, add_region, add_signal, add_speed, add_turn, empty_draft, with_steps};
-ghost use Rattle.network_file.specs.Fitting.{FitsEntry, FitsCell, FitsConnector, FitsDemand, FitsLimit, FitsRegion, FitsSignal, FitsSpeed, FitsTurn, with_entry};
+ghost use Rattle.network_file.specs.Draft.{empty_draft, with_entry};
+ghost use Rattle.network_file.specs.declared.entry.Entry.TheVariants as says;
+ghost use Rattle.network_file.specs.Fitting.{FitsEntry, FitsCell, FitsConnector, FitsDemand, FitsLimit, FitsRegion, FitsSignal, FitsSpeed, FitsTurn};
 ghost use Rattle.network_file.specs.Formats.{IsFormat};
 ghost use Rattle.network_file.specs.Taking.{taken_before};
 ghost use Rattle.network_file.specs.declared.limits.TheConstants.{MOST_BYTES};
@@ -65,7 +66,7 @@ impl NetDraft {
     fn with_steps(self, steps: u32) -> NetDraft
         requires some { 1 ≤ steps }
         requires few { steps ≤ MOST_STEPS }
-        ensures { result ≡ with_steps self steps }
+        ensures { result ≡ with_entry self (says.Steps steps) }
     {
         NetDraft {
             steps: Some(u64::from(steps)),
@@ -106,7 +107,7 @@ impl NetDraft {
     /// With one more cell, of this capacity.
     fn add_cell(self, cell: Cell, capacity: u64, bytes: &[u8]) -> Result<NetDraft, NoMemory>
         requires { FitsCell self cell capacity }
-        ensures { IfOk result (λ more. more ≡ add_cell self cell capacity) }
+        ensures { IfOk result (λ more. more ≡ with_entry self (says.Cell cell capacity)) }
     {
         let mut plan = self.plan;
         plan.put_cell(capacity)?;
@@ -121,7 +122,7 @@ impl NetDraft {
     /// With one more connector.
     fn add_connector(self, connector: Connector) -> Result<NetDraft, NoMemory>
         requires { FitsConnector self connector }
-        ensures { IfOk result (λ more. more ≡ add_connector self connector) }
+        ensures { IfOk result (λ more. more ≡ with_entry self (says.Connector connector)) }
     {
         let connectors = self.connectors.with(connector)?;
         Ok(NetDraft { connectors, ..self })
@@ -130,7 +131,7 @@ impl NetDraft {
     /// With the signal of a cell.
     fn add_signal(self, signal: Signal) -> Result<NetDraft, NoMemory>
         requires { FitsSignal self signal }
-        ensures { IfOk result (λ more. more ≡ add_signal self signal) }
+        ensures { IfOk result (λ more. more ≡ with_entry self (says.Signal signal)) }
     {
         let mut plan = self.plan;
         plan.put_signal(signal)?;
@@ -140,7 +141,7 @@ impl NetDraft {
     /// With the capacity of a cell in each step of a range.
     fn add_limit(self, limit: Limit) -> Result<NetDraft, NoMemory>
         requires { FitsLimit self limit }
-        ensures { IfOk result (λ more. more ≡ add_limit self limit) }
+        ensures { IfOk result (λ more. more ≡ with_entry self (says.Limit limit)) }
     {
         let mut plan = self.plan;
         plan.put_limit(limit)?;
@@ -150,7 +151,7 @@ impl NetDraft {
     /// With what enters a gate in each step of a range.
     fn add_demand(self, demand: Demand) -> Result<NetDraft, NoMemory>
         requires { FitsDemand self demand }
-        ensures { IfOk result (λ more. more ≡ add_demand self demand) }
+        ensures { IfOk result (λ more. more ≡ with_entry self (says.Demand demand)) }
     {
         let mut plan = self.plan;
         plan.put_demand(demand)?;
@@ -160,7 +161,7 @@ impl NetDraft {
     /// With the turning shares of the diverge out of a cell in each step of a range.
     fn add_turn(self, turn: Turn) -> Result<NetDraft, NoMemory>
         requires { FitsTurn self turn }
-        ensures { IfOk result (λ more. more ≡ add_turn self turn) }
+        ensures { IfOk result (λ more. more ≡ with_entry self (says.Turn turn)) }
     {
         let mut plan = self.plan;
         plan.put_turn(turn)?;
@@ -170,7 +171,7 @@ impl NetDraft {
     /// With the speed in a road in each step of a range.
     fn add_speed(self, speed: Speed) -> Result<NetDraft, NoMemory>
         requires { FitsSpeed self speed }
-        ensures { IfOk result (λ more. more ≡ add_speed self speed) }
+        ensures { IfOk result (λ more. more ≡ with_entry self (says.Speed speed)) }
     {
         let mut plan = self.plan;
         plan.put_speed(speed)?;
@@ -180,7 +181,7 @@ impl NetDraft {
     /// With the region of a cell.
     fn add_region(self, region: RegionRecord) -> Result<NetDraft, NoMemory>
         requires { FitsRegion self region }
-        ensures { IfOk result (λ more. more ≡ add_region self region) }
+        ensures { IfOk result (λ more. more ≡ with_entry self (says.Region region)) }
     {
         let regions = self.regions.with(region.cell, region.number)?;
         Ok(NetDraft { regions, ..self })

@@ -1,9 +1,10 @@
 ghost use Rattle.std.specs.Prelude.{◌≡◌, ◌<◌, ◌≤◌, IfOk, Some, length};
-ghost use Rattle.signal_plan.specs.Counts.{demand_count, limit_count, speed_count, turn_count};
+ghost use Rattle.signal_plan.specs.Counts.{counts_of};
 ghost use Rattle.no_memory.specs.Answers.{Answers, AnswersBy};
 ghost use Rattle.record_fields.specs.Fields.{field};
 ghost use Rattle.record_fields.specs.RecordKinds.{record_kind_of};
-ghost use Rattle.network_file.specs.Fitting.{FitsEntry, with_entry};
+ghost use Rattle.network_file.specs.Draft.{with_entry};
+ghost use Rattle.network_file.specs.Fitting.{FitsEntry};
 ghost use Rattle.network_file.specs.Formats.{most_records};
 ghost use Rattle.network_file.specs.Taking.{take_demand, take_diverge, take_exit, take_gate, take_kind, take_limit, take_link, take_merge, take_record, take_region, take_road, take_signal, take_speed, take_steps, take_turn, taken_before};
 
@@ -211,7 +212,7 @@ fn read_signal(draft: &NetDraft, row: &FileRecord) -> Result<Entry, Refused<Code
 
 #[tactic(auto, unfolding(crate::specs::Taking::take_limit))]
 fn read_limit(draft: &NetDraft, row: &FileRecord) -> Result<Entry, Refused<Code>>
-    requires { limit_count draft.now.plan < most_records draft.now.format }
+    requires { (counts_of draft.now.plan).limits < most_records draft.now.format }
     ensures answer { AnswersBy result (with_entry draft.now) (take_limit draft.now row.now) }
     ensures fits { IfOk result (FitsEntry draft.now) }
 {
@@ -228,7 +229,7 @@ fn read_limit(draft: &NetDraft, row: &FileRecord) -> Result<Entry, Refused<Code>
 
 #[tactic(auto, unfolding(crate::specs::Taking::take_demand))]
 fn read_demand(draft: &NetDraft, row: &FileRecord) -> Result<Entry, Refused<Code>>
-    requires { demand_count draft.now.plan < most_records draft.now.format }
+    requires { (counts_of draft.now.plan).demands < most_records draft.now.format }
     ensures answer { AnswersBy result (with_entry draft.now) (take_demand draft.now row.now) }
     ensures fits { IfOk result (FitsEntry draft.now) }
 {
@@ -245,7 +246,7 @@ fn read_demand(draft: &NetDraft, row: &FileRecord) -> Result<Entry, Refused<Code
 
 #[tactic(auto, unfolding(crate::specs::Taking::take_turn))]
 fn read_turn(draft: &NetDraft, row: &FileRecord) -> Result<Entry, Refused<Code>>
-    requires room { turn_count draft.now.plan < most_records draft.now.format }
+    requires room { (counts_of draft.now.plan).turns < most_records draft.now.format }
     requires second_format { 2 ≤ draft.now.format }
     ensures answer { AnswersBy result (with_entry draft.now) (take_turn draft.now row.now) }
     ensures fits { IfOk result (FitsEntry draft.now) }
@@ -275,7 +276,7 @@ fn read_region(draft: &NetDraft, row: &FileRecord) -> Result<Entry, Refused<Code
 
 #[tactic(auto, unfolding(crate::specs::Taking::take_speed))]
 fn read_speed(draft: &NetDraft, row: &FileRecord) -> Result<Entry, Refused<Code>>
-    requires room { speed_count draft.now.plan < most_records draft.now.format }
+    requires room { (counts_of draft.now.plan).speeds < most_records draft.now.format }
     requires third_format { 3 ≤ draft.now.format }
     ensures answer { AnswersBy result (with_entry draft.now) (take_speed draft.now row.now) }
     ensures fits { IfOk result (FitsEntry draft.now) }

@@ -1,7 +1,6 @@
-use Rattle.std.proofs.Common.{◌≡◌, ℕ, arith, refl, rules}
+use Rattle.std.proofs.Common.{◌≡◌, ℕ, [], arith, refl, rules}
 use Rattle.std.specs.List.{IsDistinct}
 use Rattle.std.proofs.lemmas.List.Elements.{All-nil}
-use Rattle.signal_plan.specs.Records.{no_records}
 use Rattle.network_file.specs.Draft.{IsSoundDraft, empty_draft}
 use Rattle.network_file.specs.Formats.{IsFormat}
 use Rattle.network_file.proofs.draft.NetDraft.of_file.Goals as goal
@@ -38,5 +37,5 @@ sound-empty_draft format known = record {
 
 pub invariant_of-result : goal.invariant_of-result
 invariant_of-result c =
-    let plan : c.in_ok-plan.plan.value ≡ no_records = search rules in
+    let plan : c.in_ok-plan.plan.value ≡ record { cells = [] } = search rules in
     rw (c.in_ok-cells.ensures, c.in_ok-connectors.ensures, plan, c.in_ok-regions.ensures) (sound-empty_draft c.args.format c.requires.known)
