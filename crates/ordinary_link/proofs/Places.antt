@@ -1,8 +1,5 @@
 -- What a call over slices sets, put together from its parts.
-use Rattle.std.proofs.Common.{◌≡◌, ℕ, ◌+◌, ◌-◌, ◌<◌, ◌≤◌, List, length, slice_index, refl, ◌∙◌, subst, inl, inr, arith}
-use Rattle.std.proofs.Math.ListN.{set, length-set}
-use Rattle.std.proofs.lemmas.Bool.{cases_lt}
-use Rattle.std.proofs.lemmas.List.{get_or-set_same, get_or-set_other}
+use Rattle.std.proofs.Common.{◌≡◌, ℕ, ◌+◌, ◌-◌, ◌<◌, ◌≤◌, List, length, slice_index, ◌∙◌, subst, arith}
 use Rattle.std.proofs.lemmas.Simd.{length-put_chunk, get_or-put_chunk_below, get_or-put_chunk_at, get_or-put_chunk_above}
 use lib.Lanes.{put_chunk}
 use Rattle.ordinary_link.specs.Row.{Sets}
@@ -21,4 +18,3 @@ Sets-stored at value row lanes eight room is = record {
   before = λ i below. get_or-put_chunk_below at row lanes i 0 below;
   after = λ i above. get_or-put_chunk_above at row lanes i 0 (omega arith);
 }
-
