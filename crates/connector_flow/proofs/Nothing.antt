@@ -3,9 +3,7 @@ use Rattle.std.specs.Prelude.{Option, Some, None, min}
 use Rattle.std.proofs.Common.{◌≡◌, ℕ, ◌+◌, ◌*◌, ◌/◌, ◌<◌, ◌≤◌, List, refl, sym, ap, ◌∙◌, arith}
 use Rattle.std.proofs.Math.Nat.{div-eq_of_lt, zero-mul}
 use Rattle.diverge_rule.specs.Diverge.{diverge_of}
-use Rattle.ordinary_link.specs.LinkFlow.{link_flow_of}
-use Rattle.merge_rule.specs.Merge.{merge_of}
-use Rattle.merge_rule.proofs.MergeFacts.{first_flow-room, second_flow-room}
+use Rattle.merge_rule.proofs.MergeFacts.{merge_of-room}
 use Rattle.flow_model.specs.Flows.{diverge_carries, link_carries, merge_carries}
 use Rattle.flow_model.specs.declared.carried.Flow.{Flow}
 use Rattle.connector_flow.specs.Limits.{AreInForce, AreKept, limits_of_timelines, limits_in}
@@ -17,13 +15,12 @@ use Rattle.connector_flow.specs.declared.limits.Limits.{Limits}
 -- by what their cells have to send
 
 pub link-none : (s r : ℕ) → s ≡ 0 → link_carries s r ≡ no_flow
-link-none s r none = let carried : link_flow_of s r ≡ 0 = omega (arith, none) in rw carried refl
+link-none s r none = let carried : min s r ≡ 0 = omega (arith, none) in rw carried refl
 
 pub merge-none : (s1 s2 r p1 p2 : ℕ) → s1 ≡ 0 → s2 ≡ 0 → merge_carries s1 s2 r p1 p2 ≡ no_flow
-unfolding merge_of
 merge-none s1 s2 r p1 p2 none none_second =
     let room : s1 + s2 ≤ r = omega (arith, none, none_second) in
-    rw (first_flow-room s1 s2 r p1 p2 room, second_flow-room s1 s2 r p1 p2 room, none, none_second) refl
+    rw (merge_of-room s1 s2 r p1 p2 room, none, none_second) refl
 
 nothing-split : (k b1 b2 : ℕ) → k ≡ 0 → ◌≡◌ {A = Flow} (record { out1 = k * (b1 + b2); out2 = 0; in1 = k * b1; in2 = k * b2 }) no_flow
 nothing-split k b1 b2 none = rw (none, zero-mul (b1 + b2), zero-mul b1, zero-mul b2) refl

@@ -1,8 +1,7 @@
 -- What a cell sends and receives within its most is what it can send and receive.
 use Rattle.std.specs.Prelude.{Bool, Option, Some, None, if◌then◌else◌}
 use Rattle.std.proofs.Common.{◌≡◌, ℕ, ◌+◌, ◌<◌, ◌≤◌, true, false, min, length, refl, ap, arith}
-use Rattle.ordinary_link.specs.Receiving.{receiving_flow}
-use Rattle.ordinary_link.specs.Sending.{sending_flow}
+use Rattle.ordinary_link.specs.Flows.{receiving_flow, sending_flow}
 use Rattle.ordinary_link.specs.declared.space.Room.{Room}
 use Rattle.signal_plan.specs.Capacity.{capacity_at}
 use Rattle.signal_plan.specs.Green.{green_at}

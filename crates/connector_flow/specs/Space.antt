@@ -1,6 +1,5 @@
 -- The space of a cell, and the room that it stands for.
 use Rattle.std.specs.Prelude.{◌≡◌, ℕ, ◌+◌, ◌-◌, ◌*◌, ◌/◌, ◌^◌, ◌≤◌, Option, Some, None}
-use Rattle.ordinary_link.specs.Space.{space_flow}
 use Rattle.ordinary_link.specs.declared.space.Room.{Room}
 use Rattle.connector_flow.specs.declared.space.Space.{Space}
 
@@ -14,7 +13,7 @@ let_in space n = (space.storage - n) * space.factor / 2 ^ 64
 
 -- it lets in what a cell with this room does, floor(A·(N - n)/B), and without a room all that comes
 abbrev pub IsSpaceOf : Space → Option Room → Type 0
-IsSpaceOf space (Some room) = (n : ℕ) → n ≤ room.most → (n ≤ space.storage) × (let_in space n ≡ space_flow n room)
+IsSpaceOf space (Some room) = (n : ℕ) → n ≤ room.most → (n ≤ space.storage) × (let_in space n ≡ room.num * (room.most - n) / room.den)
 IsSpaceOf space None = (n q : ℕ) → n + q ≤ boundless → (n ≤ space.storage) × (q ≤ let_in space n)
 
 -- a cell with this room can hold `n` parts, and without a room `n` parts and a step's capacity

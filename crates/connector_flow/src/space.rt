@@ -1,6 +1,6 @@
 ghost use Rattle.std.specs.Prelude.{◌≡◌, ◌≤◌, ◌<◌, ◌+◌, ◌*◌, ◌/◌, ◌^◌};
 ghost use Rattle.std.specs.Option.{ForSome};
-ghost use Rattle.ordinary_link.specs.Space.{IsRoomHolding};
+ghost use Rattle.ordinary_link.specs.Flows.{IsRoomHolding};
 ghost use Rattle.connector_flow.specs.Space.{IsSpaceOf, let_in};
 
 use ordinary_link::{MOST_PARTS, Room};

@@ -7,7 +7,7 @@ use Rattle.std.specs.Cmp.Lexicographic.{bytes_decides}
 use Rattle.std.proofs.lemmas.Bool.{and_parts, and_from, cases_Bool, or_right}
 use Rattle.std.proofs.lemmas.Bool.Decides.{nat_tests}
 use Rattle.std.proofs.lemmas.List.Quantifiers.{position-Some}
-use Rattle.fixed_flow.specs.Spelling.{amount_of, is_amount, is_digits, is_point, whole_of}
+use Rattle.fixed_flow.specs.Spelling.{amount_of, is_digits, is_point, whole_of}
 use Rattle.record_fields.specs.CellName.{allowed_in_name, is_name}
 use Rattle.network_file.specs.Cells.{cell_named}
 use Rattle.network_file.specs.declared.cell.Cell.{Cell}
@@ -82,7 +82,7 @@ decimals-digits true decimals spelled = (is_digits-parts 6 decimals spelled).1
 -- an amount is plain
 pub amount_of-plain : (text : List ℕ) (n : ℕ) → amount_of text ≡ Some n → IsPlain text
 unfolding amount_of
-amount_of-plain text n spelled = elim (cases_Bool (is_amount text)) [
+amount_of-plain text n spelled = elim (cases_Bool (is_digits 12 (before_first is_point text) && (not (list_any is_point text) || is_digits 6 (after_first is_point text)))) [
   | inl amount ↦
       let (whole, decimals) =
       and_parts (is_digits 12 (before_first is_point text)) (not (list_any is_point text) || is_digits 6 (after_first is_point text)) amount in

@@ -9,7 +9,7 @@ use Rattle.network_file.specs.Network.{Network, IsNetwork}
 use Rattle.network_file.specs.declared.connector.Connector.{Connector}
 use Rattle.network_file.specs.declared.connector.Connector.TheVariants.{Link, Merge, Diverge}
 use Rattle.flow_model.specs.Bounds.{AreHeldInBounds, AreInBounds, IsHeldInBounds}
-use Rattle.flow_model.specs.Flows.{flow_between, flow_of, sent_by, received_by, amount_beside, leaving, entering, outflow, inflow}
+use Rattle.flow_model.specs.Flows.{flow_between, flow_of, amount_beside, leaving, entering, outflow, inflow}
 use Rattle.flow_model.specs.State.{row_at, occupancy, next_rows}
 use Rattle.flow_model.specs.Moves.{CanLeave, CanEnter, row_less, row_more, with_connectors}
 use Rattle.flow_model.specs.declared.row.Row.{Row}
@@ -51,12 +51,12 @@ pub record IsCarried (net : Network) (t k : ℕ) (rows : List Row) (flow : Flow)
 abbrev pub left_so_far : Network → (t k : ℕ) → List Row → Flow → (outs i : ℕ) → ℕ
 left_so_far net t k rows flow outs i =
     outflow (with_connectors net k) t (occupancy rows) i +
-    amount_beside i (take outs (upstream_of (connector_at net.connectors k))) (sent_by flow)
+    amount_beside i (take outs (upstream_of (connector_at net.connectors k))) (flow.out1 ∷ flow.out2 ∷ [])
 
 abbrev pub entered_so_far : Network → (t k : ℕ) → List Row → Flow → (ins i : ℕ) → ℕ
 entered_so_far net t k rows flow ins i =
     inflow (with_connectors net k) t (occupancy rows) i +
-    amount_beside i (take ins (downstream_of (connector_at net.connectors k))) (received_by flow)
+    amount_beside i (take ins (downstream_of (connector_at net.connectors k))) (flow.in1 ∷ flow.in2 ∷ [])
 
 -- the rows then
 abbrev pub rows_so_far : Network → (t k : ℕ) → List Row → Flow → (outs ins : ℕ) → List Row
@@ -78,7 +78,7 @@ is_change : (net : Network) (t k i outs ins : ℕ) (rows : List Row) (flow : Flo
 is_change net t k i outs ins rows flow carried has =
     let connector : Connector = connector_at net.connectors k in
     let fits = connector_at-sound net k carried.sound carried.there in
-    let brought = amount_beside-take-le i (downstream_of connector) (received_by flow) ins in
+    let brought = amount_beside-take-le i (downstream_of connector) (flow.in1 ∷ flow.in2 ∷ []) ins in
     changes net t i (occupancy rows) (entered_so_far net t k rows flow ins i) (left_so_far net t k rows flow outs i) carried.sound has
     (λ gate.
     let none = entering-other i connector flow (leads_into-gate net i connector fits gate) in
@@ -89,7 +89,7 @@ is_change net t k i outs ins rows flow carried has =
       arith,
       left_with net t k i rows flow carried,
       outflow-with_connectors-le net t (occupancy rows) i (k + 1),
-      amount_beside-take-le i (upstream_of connector) (sent_by flow) outs,
+      amount_beside-take-le i (upstream_of connector) (flow.out1 ∷ flow.out2 ∷ []) outs,
     ))
 
 -- before its first move
@@ -109,14 +109,14 @@ carrying-ends net t k outs ins rows now flow carried all_out all_in is =
     let down : List ℕ = downstream_of (connector_at net.connectors k) in
     is ∙ rows_moved-same net rows (entered_so_far net t k rows flow ins) (left_so_far net t k rows flow outs)
     (inflow (with_connectors net (k + 1)) t (occupancy rows)) (outflow (with_connectors net (k + 1)) t (occupancy rows))
-    (λ i. omega (arith, entered_with net t k i rows flow carried, ap (λ cells. amount_beside i cells (received_by flow)) (take_all ins down all_in)))
-    (λ i. omega (arith, left_with net t k i rows flow carried, ap (λ cells. amount_beside i cells (sent_by flow)) (take_all outs up all_out))) ∙
+    (λ i. omega (arith, entered_with net t k i rows flow carried, ap (λ cells. amount_beside i cells (flow.in1 ∷ flow.in2 ∷ [])) (take_all ins down all_in)))
+    (λ i. omega (arith, left_with net t k i rows flow carried, ap (λ cells. amount_beside i cells (flow.out1 ∷ flow.out2 ∷ [])) (take_all outs up all_out))) ∙
     sym (next_rows-with_connectors net t (k + 1) rows)
 
 -- one move out: of the cell upstream of this place
 moves-out : (net : Network) (t k j ins cell parts : ℕ) (rows now : List Row) (flow : Flow) → IsCarried net t k rows flow →
     j < length (upstream_of (connector_at net.connectors k)) → j < 2 →
-    cell ≡ get_or (cells_of (connector_at net.connectors k)) j 0 → parts ≡ get_or (sent_by flow) j 0 →
+    cell ≡ get_or (cells_of (connector_at net.connectors k)) j 0 → parts ≡ get_or (flow.out1 ∷ flow.out2 ∷ []) j 0 →
     now ≡ rows_so_far net t k rows flow j ins →
     CanLeave now cell parts × (set now cell (row_less (row_at now cell) parts) ≡ rows_so_far net t k rows flow (j + 1) ins)
 moves-out net t k j ins cell parts rows now flow carried within few place parts_is is =
@@ -124,7 +124,7 @@ moves-out net t k j ins cell parts rows now flow carried within few place parts_
     let cell_is : cell ≡ get_or up j 0 = place ∙ get_or_append_left up (downstream_of (connector_at net.connectors k)) 0 j within in
     let has : cell < length net.cells = rw cell_is ((connector_at-sound net k carried.sound carried.there).up j 0 within).0 in
     let more : (i : ℕ) → left_so_far net t k rows flow j i + (if i == cell then parts else 0) ≡ left_so_far net t k rows flow (j + 1) i =
-    λ i. rw (cell_is, parts_is) (omega (arith, amount_beside-more i up (sent_by flow) j within few)) in
+    λ i. rw (cell_is, parts_is) (omega (arith, amount_beside-more i up (flow.out1 ∷ flow.out2 ∷ []) j within few)) in
     let own : (cell == cell) ≡ true = eq-eqb cell cell refl in
     let own_parts : (if cell == cell then parts else 0) ≡ parts = ap (λ b. if b then parts else 0) own in
     let after : left_so_far net t k rows flow j cell + parts ≡ left_so_far net t k rows flow (j + 1) cell = omega (arith, more cell) in
@@ -140,7 +140,7 @@ moves-out net t k j ins cell parts rows now flow carried within few place parts_
 moves-in : (net : Network) (t k outs j cell parts : ℕ) (rows now : List Row) (flow : Flow) → IsCarried net t k rows flow →
     j < length (downstream_of (connector_at net.connectors k)) → j < 2 →
     cell ≡ get_or (cells_of (connector_at net.connectors k)) (length (upstream_of (connector_at net.connectors k)) + j) 0 →
-    parts ≡ get_or (received_by flow) j 0 →
+    parts ≡ get_or (flow.in1 ∷ flow.in2 ∷ []) j 0 →
     now ≡ rows_so_far net t k rows flow outs j →
     CanEnter now cell parts × (set now cell (row_more (row_at now cell) parts) ≡ rows_so_far net t k rows flow outs (j + 1))
 moves-in net t k outs j cell parts rows now flow carried within few place parts_is is =
@@ -149,7 +149,7 @@ moves-in net t k outs j cell parts rows now flow carried within few place parts_
     let cell_is : cell ≡ get_or down j 0 = place ∙ get_or-append_behind up down j in
     let has : cell < length net.cells = rw cell_is ((connector_at-sound net k carried.sound carried.there).down j 0 within).0 in
     let more : (i : ℕ) → entered_so_far net t k rows flow j i + (if i == cell then parts else 0) ≡ entered_so_far net t k rows flow (j + 1) i =
-    λ i. rw (cell_is, parts_is) (omega (arith, amount_beside-more i down (received_by flow) j within few)) in
+    λ i. rw (cell_is, parts_is) (omega (arith, amount_beside-more i down (flow.in1 ∷ flow.in2 ∷ []) j within few)) in
     let own : (cell == cell) ≡ true = eq-eqb cell cell refl in
     let own_parts : (if cell == cell then parts else 0) ≡ parts = ap (λ b. if b then parts else 0) own in
     let after : entered_so_far net t k rows flow j cell + parts ≡ entered_so_far net t k rows flow (j + 1) cell = omega (arith, more cell) in
@@ -265,17 +265,17 @@ pub begun : {net : Network} {t k ups downs : ℕ} {cells : List ℕ} {rows now :
 begun {net} {t} {k} {ups} {downs} {cells} {rows} {now} {flow} carries is = carrying-begins net t k rows now flow is
 
 pub leaves : {net : Network} {t k ups downs : ℕ} {cells : List ℕ} {rows now : List Row} {flow : Flow} → Carries net t k ups downs cells rows flow → (j : ℕ) → j < ups → j < 2 →
-    now ≡ rows_so_far net t k rows flow j 0 → let cell = get_or cells j 0 in let parts = get_or (sent_by flow) j 0 in
+    now ≡ rows_so_far net t k rows flow j 0 → let cell = get_or cells j 0 in let parts = get_or (flow.out1 ∷ flow.out2 ∷ []) j 0 in
     CanLeave now cell parts × (set now cell (row_less (row_at now cell) parts) ≡ rows_so_far net t k rows flow (j + 1) 0)
 leaves {net} {t} {k} {ups} {downs} {cells} {rows} {now} {flow} carries j within few is =
-    moves-out net t k j 0 (get_or cells j 0) (get_or (sent_by flow) j 0) rows now flow carries.carried (omega (arith, within, carries.up)) few
+    moves-out net t k j 0 (get_or cells j 0) (get_or (flow.out1 ∷ flow.out2 ∷ []) j 0) rows now flow carries.carried (omega (arith, within, carries.up)) few
     (ap (λ cells. get_or cells j 0) (sym carries.between)) refl is
 
 pub enters : {net : Network} {t k ups downs : ℕ} {cells : List ℕ} {rows now : List Row} {flow : Flow} → Carries net t k ups downs cells rows flow → (j : ℕ) → j < downs → j < 2 →
-    now ≡ rows_so_far net t k rows flow ups j → let cell = get_or cells (ups + j) 0 in let parts = get_or (received_by flow) j 0 in
+    now ≡ rows_so_far net t k rows flow ups j → let cell = get_or cells (ups + j) 0 in let parts = get_or (flow.in1 ∷ flow.in2 ∷ []) j 0 in
     CanEnter now cell parts × (set now cell (row_more (row_at now cell) parts) ≡ rows_so_far net t k rows flow ups (j + 1))
 enters {net} {t} {k} {ups} {downs} {cells} {rows} {now} {flow} carries j within few is =
-    moves-in net t k ups j (get_or cells (ups + j) 0) (get_or (received_by flow) j 0) rows now flow carries.carried (omega (arith, within, carries.down)) few
+    moves-in net t k ups j (get_or cells (ups + j) 0) (get_or (flow.in1 ∷ flow.in2 ∷ []) j 0) rows now flow carries.carried (omega (arith, within, carries.down)) few
     (rw carries.up (ap (λ cells. get_or cells (ups + j) 0) (sym carries.between))) refl is
 
 pub ended : {net : Network} {t k ups downs : ℕ} {cells : List ℕ} {rows now : List Row} {flow : Flow} → Carries net t k ups downs cells rows flow →

@@ -5,7 +5,6 @@ use Rattle.std.proofs.Common.{◌≡◌, inl, inr, ℕ, zero, suc, Bool, true, f
 use Rattle.std.proofs.lemmas.Bool.{cases_Bool, eqb-true}
 use Rattle.std.proofs.lemmas.List.Elements.{All-head, All-tail, All-weaker}
 use Rattle.std.proofs.lemmas.List.{get_or-map, get_or_append_left, get_or-append_right, length-append}
-use Rattle.ordinary_link.proofs.Bounds.{link_flow_of-le-sent, link_flow_of-le-received}
 use Rattle.merge_rule.proofs.MergeFacts.{merge_of-first_sends, merge_of-second_sends, merge_of-receives}
 use Rattle.diverge_rule.proofs.DivergeFacts.{diverge_of-conserved, diverge_of-sends, diverge_of-first_receives, diverge_of-second_receives}
 use Rattle.signal_plan.specs.Records.{TurnRecord}
@@ -20,7 +19,7 @@ use Rattle.network_file.specs.declared.connector.Connector.{Connector}
 use Rattle.network_file.specs.declared.connector.Connector.TheVariants.{Link, Merge, Diverge}
 use Rattle.flow_model.specs.Limits.{sending_at, receiving_at}
 use Rattle.flow_model.specs.FlowLaw.{SendsAtMost, ReceivesAtMost}
-use Rattle.flow_model.specs.Flows.{flow_between, flow_of, sent_by, received_by, amount_beside, leaving, entering}
+use Rattle.flow_model.specs.Flows.{flow_between, flow_of, amount_beside, leaving, entering}
 use Rattle.flow_model.specs.declared.carried.Flow.{Flow}
 
 -- the weights of a merge are not both 0
@@ -50,8 +49,7 @@ flow_between-conserved net t (Diverge up down1 down2 b1 b2) n =
 
 pub flow_between-sends : (net : Network) (t : ℕ) (connector : Connector) (n : List ℕ) → IsSoundConnector net.cells connector →
     SendsAtMost net t connector n (flow_between net t connector n)
-flow_between-sends net t (Link up down) n sound zero within =
-    link_flow_of-le-sent (sending_at net t up (slice_index n 0)) (receiving_at net t down (slice_index n 1))
+flow_between-sends net t (Link up down) n sound zero within = omega arith
 flow_between-sends net t (Link up down) n sound (suc j) within = absurd (omega arith)
 flow_between-sends net t (Merge up1 up2 down p1 p2) n sound zero within =
     merge_of-first_sends (sending_at net t up1 (slice_index n 0)) (sending_at net t up2 (slice_index n 1))
@@ -67,8 +65,7 @@ flow_between-sends net t (Diverge up down1 down2 b1 b2) n sound (suc j) within =
 
 pub flow_between-receives : (net : Network) (t : ℕ) (connector : Connector) (n : List ℕ) → IsSoundConnector net.cells connector →
     ReceivesAtMost net t connector n (flow_between net t connector n)
-flow_between-receives net t (Link up down) n sound zero within =
-    link_flow_of-le-received (sending_at net t up (slice_index n 0)) (receiving_at net t down (slice_index n 1))
+flow_between-receives net t (Link up down) n sound zero within = omega arith
 flow_between-receives net t (Link up down) n sound (suc j) within = absurd (omega arith)
 flow_between-receives net t (Merge up1 up2 down p1 p2) n sound zero within =
     merge_of-receives (sending_at net t up1 (slice_index n 0)) (sending_at net t up2 (slice_index n 1))
@@ -151,7 +148,7 @@ leaving-le net t i n connector sound =
     let down : List ℕ = downstream_of connector in
     let sends : SendsAtMost net t connector (map n (cells_of connector)) (flow_of net t n connector) =
     flow_between-sends net t connector (map n (cells_of connector)) sound in
-    amount_beside-le i (sending_at net t i (n i)) up (sent_by (flow_of net t n connector)) sound.up_apart
+    amount_beside-le i (sending_at net t i (n i)) up _ sound.up_apart
     (λ j within here. rw (here, held_up n up down i j within here) at (sends j within))
 
 -- what enters it
@@ -163,7 +160,7 @@ entering-le net t i n connector sound =
     let down : List ℕ = downstream_of connector in
     let receives : ReceivesAtMost net t connector (map n (cells_of connector)) (flow_of net t n connector) =
     flow_between-receives net t connector (map n (cells_of connector)) sound in
-    amount_beside-le i (receiving_at net t i (n i)) down (received_by (flow_of net t n connector)) sound.down_apart
+    amount_beside-le i (receiving_at net t i (n i)) down _ sound.down_apart
     (λ j within here. rw (here, held_down n up down i j within here) at (receives j within))
 
 -- what holds of all these cells holds of the one that is listed
@@ -176,7 +173,7 @@ at_listed P i (cell ∷ cells) listed all = elim (cases_Bool (eqb i cell)) [
 
 -- a connector that doesn't lead out of a cell takes nothing from it, and one that doesn't lead into it brings it nothing
 pub leaving-other : (i : ℕ) (connector : Connector) (flow : Flow) → leads_out_of i connector ≡ false → leaving i connector flow ≡ 0
-leaving-other i connector flow none = amount_beside-other i (upstream_of connector) (sent_by flow) none
+leaving-other i connector flow none = amount_beside-other i (upstream_of connector) (flow.out1 ∷ flow.out2 ∷ []) none
 
 pub entering-other : (i : ℕ) (connector : Connector) (flow : Flow) → leads_into i connector ≡ false → entering i connector flow ≡ 0
-entering-other i connector flow none = amount_beside-other i (downstream_of connector) (received_by flow) none
+entering-other i connector flow none = amount_beside-other i (downstream_of connector) (flow.in1 ∷ flow.in2 ∷ []) none

@@ -13,7 +13,7 @@ use Rattle.fixed_flow.specs.Limits.{most_parts}
 use Rattle.network_file.specs.declared.cell.Cell.{Cell}
 use Rattle.flow_model.specs.Flows.{inflow, outflow}
 use Rattle.flow_model.specs.Moves.{begun_row, with_connectors}
-use Rattle.flow_model.specs.Rows.{empty_row, first_row, next_row}
+use Rattle.flow_model.specs.Rows.{empty_row, next_row}
 use Rattle.flow_model.specs.State.{row_at, occupancy, next_rows, state_at}
 use Rattle.flow_model.specs.Bounds.{IsRowInBounds, AreInBounds, KeepsRooms}
 use Rattle.flow_model.specs.declared.row.Row.{Row}
@@ -23,6 +23,10 @@ use Rattle.flow_model.proofs.Flows.{inflow-gate}
 use Rattle.flow_model.proofs.CellLimits.{first-within}
 use Rattle.flow_model.proofs.Bounds.{changes, moved_row-in_bounds}
 use Rattle.flow_model.proofs.Moves.{length-rows_moved, next_rows-moved, next_rows-with_connectors, row_at-rows_moved, rows_moved-from_each, rows_moved-same}
+
+-- the row of a cell at step 0
+abbrev pub first_row : Cell → Row
+first_row cell = record empty_row { n = cell.first }
 
 -- one row for each cell
 

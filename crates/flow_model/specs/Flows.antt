@@ -1,6 +1,5 @@
 -- What moves in a step, by what the cells hold.
-use Rattle.std.specs.Prelude.{ℕ, ◌==◌, ◌+◌, List, [], ◌∷◌, map, slice_index, sum_by, if◌then◌else◌}
-use Rattle.ordinary_link.specs.LinkFlow.{link_flow_of}
+use Rattle.std.specs.Prelude.{ℕ, ◌==◌, ◌+◌, List, [], ◌∷◌, map, min, slice_index, sum_by, if◌then◌else◌}
 use Rattle.merge_rule.specs.Merge.{merge_of}
 use Rattle.diverge_rule.specs.Diverge.{diverge_of}
 use Rattle.signal_plan.specs.Demand.{demand_at}
@@ -15,7 +14,7 @@ use Rattle.flow_model.specs.declared.carried.Flow.{Flow}
 
 -- what a link carries from a cell that can send s to one that can receive r
 abbrev pub link_carries : (s r : ℕ) → Flow
-link_carries s r = let carried = link_flow_of s r in record { out1 = carried; out2 = 0; in1 = carried; in2 = 0 }
+link_carries s r = let carried = min s r in record { out1 = carried; out2 = 0; in1 = carried; in2 = 0 }
 
 -- what a merge carries
 abbrev pub merge_carries : (s1 s2 r p1 p2 : ℕ) → Flow
@@ -44,13 +43,6 @@ flow_between net t (Diverge up down1 down2 b1 b2) held =
 unfoldable pub flow_of : Network → (t : ℕ) → (n : ℕ → ℕ) → Connector → Flow
 flow_of net t n connector = flow_between net t connector (map n (cells_of connector))
 
--- two lists beside a connector's cells: what leaves each upstream, and what enters each downstream
-abbrev pub sent_by : Flow → List ℕ
-sent_by flow = flow.out1 ∷ flow.out2 ∷ []
-
-abbrev pub received_by : Flow → List ℕ
-received_by flow = flow.in1 ∷ flow.in2 ∷ []
-
 -- the sum of the amounts beside cell i, in a list of amounts beside a list of cells
 abbrev pub amount_beside : (i : ℕ) → (cells amounts : List ℕ) → ℕ
 amount_beside i [] amounts = 0
@@ -59,11 +51,11 @@ amount_beside i (cell ∷ cells) (amount ∷ amounts) = (if i == cell then amoun
 
 -- what leaves cell i by a connector with this flow
 abbrev pub leaving : (i : ℕ) → Connector → Flow → ℕ
-leaving i connector flow = amount_beside i (upstream_of connector) (sent_by flow)
+leaving i connector flow = amount_beside i (upstream_of connector) (flow.out1 ∷ flow.out2 ∷ [])
 
 -- what enters cell i by it
 abbrev pub entering : (i : ℕ) → Connector → Flow → ℕ
-entering i connector flow = amount_beside i (downstream_of connector) (received_by flow)
+entering i connector flow = amount_beside i (downstream_of connector) (flow.in1 ∷ flow.in2 ∷ [])
 
 -- what leaves cell i in step t
 unfoldable pub outflow : Network → (t : ℕ) → (n : ℕ → ℕ) → (i : ℕ) → ℕ

@@ -1,7 +1,6 @@
 -- What a cell can send and receive in a step.
 use Rattle.std.specs.Prelude.{ℕ, List, Option, Some, None, option_and_then, slice_get}
-use Rattle.ordinary_link.specs.Receiving.{receiving_flow}
-use Rattle.ordinary_link.specs.Sending.{sending_flow}
+use Rattle.ordinary_link.specs.Flows.{receiving_flow, sending_flow}
 use Rattle.ordinary_link.specs.declared.space.Room.{Room}
 use Rattle.signal_plan.specs.Capacity.{capacity_at}
 use Rattle.signal_plan.specs.Green.{green_at}

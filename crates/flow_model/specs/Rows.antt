@@ -2,17 +2,12 @@
 use Rattle.std.specs.Prelude.{ℕ, ◌+◌, ◌-◌, if◌then◌else◌}
 use Rattle.network_file.specs.Cells.{is_exit_at}
 use Rattle.network_file.specs.Network.{Network}
-use Rattle.network_file.specs.declared.cell.Cell.{Cell}
 use Rattle.flow_model.specs.Flows.{inflow, outflow}
 use Rattle.flow_model.specs.declared.row.Row.{Row}
 
 -- the row of a cell of which nothing is known
 abbrev pub empty_row : Row
 empty_row = record { n = 0; come = 0; gone = 0; wait = 0 }
-
--- a cell's row before the first step
-abbrev pub first_row : Cell → Row
-first_row cell = record { n = cell.first; come = 0; gone = 0; wait = 0 }
 
 -- a row after so much entered and so much left; what stays in an exit doesn't wait
 abbrev pub moved_row : Network → (i : ℕ) → Row → (enters leaves : ℕ) → Row

@@ -2,7 +2,7 @@
 use Rattle.std.specs.Prelude.{ℕ, zero, suc, List, map, length, slice_index, slice_index_or, sum_by}
 use Rattle.std.specs.List.{range_with_len}
 use Rattle.network_file.specs.Network.{Network}
-use Rattle.flow_model.specs.Rows.{empty_row, first_row, next_row}
+use Rattle.flow_model.specs.Rows.{empty_row, next_row}
 use Rattle.flow_model.specs.declared.row.Row.{Row}
 
 -- the row of cell i
@@ -17,9 +17,9 @@ occupancy rows i = (row_at rows i).n
 unfoldable pub next_rows : Network → (t : ℕ) → List Row → List Row
 next_rows net t rows = map (λ i. next_row net t (occupancy rows) i (row_at rows i)) (range_with_len 0 (length net.cells))
 
--- State(t): all rows at step t
+-- State(t): all rows at step t; at first each cell holds what the file says, and nothing is counted yet
 unfoldable pub state_at : Network → (t : ℕ) → List Row
-state_at net zero = map first_row net.cells
+state_at net zero = map (λ cell. record empty_row { n = cell.first }) net.cells
 state_at net (suc t) = next_rows net t (state_at net t)
 
 -- the rows of these cells after step t, by their rows and by what all cells around them hold as it begins

@@ -1,9 +1,8 @@
 -- What has come into a cell and gone out of it, as curves over the steps, in a network of links alone.
-use Rattle.std.specs.Prelude.{sum_by, ◌==◌}
+use Rattle.std.specs.Prelude.{sum_by, min, ◌==◌}
 use Rattle.std.proofs.Common.{◌≡◌, ℕ, zero, suc, add-one, true, false, ◌+◌, ◌<◌, ◌≤◌, [], length, arith, refl, subst, ◌∙◌}
 use Rattle.std.proofs.lemmas.Bool.{eq-eqb}
 use Rattle.std.proofs.lemmas.List.Sums.{sum_by-cons}
-use Rattle.ordinary_link.specs.LinkFlow.{link_flow_of}
 use Rattle.signal_plan.specs.Total.{demand_from}
 use Rattle.signal_plan.proofs.Laws.{demand_from_next, demand_from_none}
 use Rattle.network_file.specs.Cells.{is_exit_at, is_gate_at}
@@ -35,7 +34,7 @@ held net t i = occupancy (state_at net t) i
 
 -- what a link from cell i into cell j carries in step t
 abbrev pub carried : Network → (t i j : ℕ) → ℕ
-carried net t i j = link_flow_of (sending_at net t i (held net t i)) (receiving_at net t j (held net t j))
+carried net t i j = min (sending_at net t i (held net t i)) (receiving_at net t j (held net t j))
 
 leaves-linked : (net : Network) (t i j : ℕ) → IsNetwork net → IsLinked net i j → leaves net t i ≡ carried net t i j
 unfolding flow_of

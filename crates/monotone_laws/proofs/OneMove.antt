@@ -3,7 +3,7 @@ use Rattle.std.proofs.Common.{◌≡◌, inl, inr, ℕ, Bool, true, false, min, 
 use Rattle.std.proofs.Math.Nat.{div-mul-le_self, le_of_mul-le-mul_right, mul_comm, mul-le-mul_left, mul-le-mul_right}
 use Rattle.std.proofs.lemmas.Bool.{cases_lt}
 use Rattle.std.proofs.lemmas.Nat.{le-div}
-use Rattle.ordinary_link.specs.Sending.{sending_flow}
+use Rattle.ordinary_link.specs.Flows.{sending_flow}
 use Rattle.signal_plan.specs.Speeds.{IsSpeed, arriving}
 
 times_sum : (a y d : ℕ) → a * (y + d) ≡ a * y + a * d

@@ -1,7 +1,7 @@
 -- One step of a link in two networks of which the second is eased.
 use Rattle.std.specs.Prelude.{slice_get, Some}
 use Rattle.std.proofs.Common.{◌≡◌, ℕ, min, true, ◌+◌, ◌-◌, ◌<◌, ◌≤◌, length, arith, refl, subst, sym, false, ◌∙◌}
-use Rattle.ordinary_link.specs.Receiving.{receiving_flow}
+use Rattle.ordinary_link.specs.Flows.{receiving_flow}
 use Rattle.signal_plan.specs.Capacity.{capacity_at}
 use Rattle.signal_plan.specs.Green.{green_at}
 use Rattle.signal_plan.specs.Speeds.{arriving, speed_at}

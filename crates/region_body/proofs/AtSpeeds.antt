@@ -6,7 +6,6 @@ use Rattle.std.proofs.lemmas.List.{get_or_past}
 use Rattle.std.proofs.lemmas.List.FromFn.{get_or-map-range_with_len, length-map-range_with_len}
 use Rattle.signal_plan.specs.Speeds.{arriving}
 use Rattle.signal_plan.proofs.Laws.{arriving-own}
-use Rattle.ordinary_link.specs.LinkFlow.{link_flow_of}
 use Rattle.region_body.specs.Places.{carried, link_out, no_place, place_at}
 use Rattle.region_body.specs.SpeedZones.{end_before, is_slow_four, is_whole_four, zone_at}
 use Rattle.connector_flow.specs.Space.{let_in}
@@ -47,7 +46,7 @@ pub carried-free : (place next : Place) (speed : ℕ × ℕ) → speed ≡ (1, 1
 carried-free place next speed free =
     let all : arriving speed place.n ≡ place.n = ap (λ one. arriving one place.n) free ∙ arriving-own place.n in
     let same : min (min place.most (arriving speed place.n)) place.n ≡ min place.most place.n = omega (arith, all) in
-    ap (λ sent. link_flow_of sent (let_in next.space next.n)) same
+    ap (λ sent. min sent (let_in next.space next.n)) same
 
 -- what is asked of a sweep, of its zones
 

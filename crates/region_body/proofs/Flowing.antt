@@ -13,7 +13,6 @@ use Rattle.network_file.specs.Network.{IsNetwork, IsSoundConnector, Network}
 use Rattle.network_file.specs.declared.connector.Connector.{Connector}
 use Rattle.network_file.specs.declared.connector.Connector.TheVariants.{Link}
 use Rattle.flow_model.specs.Flows.{entering, flow_of, inflow, leaving, outflow}
-use Rattle.ordinary_link.specs.LinkFlow.{link_flow_of}
 use Rattle.flow_model.specs.Limits.{receiving_at, room_at, sending_at}
 use Rattle.flow_model.proofs.Flows.{leads_into-gate}
 use Rattle.network_file.proofs.NetworkFacts.{connector_at-sound}
@@ -152,7 +151,7 @@ most-none net t n cells connectors places p has within apart =
 -- and else it carries the flow of the link
 most-joined : (net : Network) (t : ℕ) (n : ℕ → ℕ) (cells connectors : List ℕ) (places : List Place) (p : ℕ) → HasPlaces net t n cells connectors places →
     p + 1 < length cells → is_joined net cells connectors p ≡ true →
-    link_out places p ≡ link_flow_of (sending_at net t (slice_index cells p) (n (slice_index cells p)))
+    link_out places p ≡ min (sending_at net t (slice_index cells p) (n (slice_index cells p)))
     (receiving_at net t (slice_index cells (p + 1)) (n (slice_index cells (p + 1))))
 unfolding link_out
 most-joined net t n cells connectors places p has within joined =

@@ -1,9 +1,7 @@
 -- The flow between two places is that of the link between their cells.
 use Rattle.std.specs.Prelude.{if◌then◌else◌}
 use Rattle.std.proofs.Common.{◌≡◌, ℕ, ◌≤◌, Bool, true, false, Option, Some, None, min, arith}
-use Rattle.ordinary_link.specs.LinkFlow.{link_flow_of}
-use Rattle.ordinary_link.specs.Receiving.{receiving_flow}
-use Rattle.ordinary_link.specs.Sending.{sending_flow}
+use Rattle.ordinary_link.specs.Flows.{receiving_flow, sending_flow}
 use Rattle.ordinary_link.specs.declared.space.Room.{Room}
 use Rattle.connector_flow.specs.Space.{HasSpace, IsSpaceOf, let_in}
 use Rattle.connector_flow.specs.declared.space.Space.{Space}
@@ -16,8 +14,8 @@ lesser_boundless q_up q_down n_up let_in large = omega arith
 
 pub link_flow-is : (q_up q_down n_up n_down : ℕ) (green : Bool) (space : Space) (room : Option Room) → IsSpaceOf space room →
     HasSpace n_down q_down room →
-    link_flow_of (min (min (if green then q_up else 0) q_down) n_up) (let_in space n_down) ≡
-    link_flow_of (sending_flow n_up q_up green) (receiving_flow n_down q_down room)
+    min (min (min (if green then q_up else 0) q_down) n_up) (let_in space n_down) ≡
+    min (sending_flow n_up q_up green) (receiving_flow n_down q_down room)
 link_flow-is q_up q_down n_up n_down true space (Some room) is has =
     let same = (is n_down has).1 in rw (← same) (lesser q_up q_down n_up (let_in space n_down))
 link_flow-is q_up q_down n_up n_down true space None is has =

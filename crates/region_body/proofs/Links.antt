@@ -4,8 +4,7 @@ use Rattle.std.specs.List.{range_with_len}
 use Rattle.std.proofs.Common.{◌≡◌, ℕ, ◌+◌, ◌<◌, inl, inr, true, false, List, length, refl, ap, ◌∙◌, arith}
 use Rattle.std.proofs.lemmas.Bool.{cases_Bool, eq-eqb, eqb-true}
 use Rattle.std.proofs.lemmas.Bool.Decides.{nat_tests}
-use Rattle.ordinary_link.specs.LinkFlow.{link_flow_of}
-use Rattle.ordinary_link.specs.Receiving.{receiving_flow}
+use Rattle.ordinary_link.specs.Flows.{receiving_flow}
 use Rattle.network_file.specs.Network.{Network}
 use Rattle.network_file.specs.declared.connector.Connector.{Connector}
 use Rattle.network_file.specs.declared.connector.Connector.TheVariants.{Link, Merge, Diverge}
@@ -70,12 +69,12 @@ not_chained cells connector none = elim (cases_Bool (is_chained cells connector)
 
 -- what a link carries leaves its cell upstream and enters the one downstream
 pub leaving-link : (up down : ℕ) (net : Network) (t : ℕ) (n : ℕ → ℕ) →
-    leaving up (Link up down) (flow_of net t n (Link up down)) ≡ link_flow_of (sending_at net t up (n up)) (receiving_at net t down (n down))
+    leaving up (Link up down) (flow_of net t n (Link up down)) ≡ min (sending_at net t up (n up)) (receiving_at net t down (n down))
 unfolding flow_of
 leaving-link up down net t n = let own = eq-eqb up up refl in rw own (omega arith)
 
 pub entering-link : (up down : ℕ) (net : Network) (t : ℕ) (n : ℕ → ℕ) →
-    entering down (Link up down) (flow_of net t n (Link up down)) ≡ link_flow_of (sending_at net t up (n up)) (receiving_at net t down (n down))
+    entering down (Link up down) (flow_of net t n (Link up down)) ≡ min (sending_at net t up (n up)) (receiving_at net t down (n down))
 unfolding flow_of
 entering-link up down net t n = let own = eq-eqb down down refl in rw own (omega arith)
 
@@ -83,13 +82,13 @@ entering-link up down net t n = let own = eq-eqb down down refl in rw own (omega
 pub carried-link : (net : Network) (t up down : ℕ) (n : ℕ → ℕ) (place next : Place) →
     min place.most place.n ≡ min (most_between net.plan up down t) (arriving (speed_at net.plan up t) (n up)) → next.n ≡ n down →
     IsSpaceOf next.space (room_at net.cells down) → HasSpace next.n (capacity_at net.plan down t) (room_at net.cells down) →
-    carried place next ≡ link_flow_of (sending_at net t up (n up)) (receiving_at net t down (n down))
+    carried place next ≡ min (sending_at net t up (n up)) (receiving_at net t down (n down))
 unfolding most_between most_by sending_at receiving_at
 carried-link net t up down n place next sends next_held space has =
-    ap (λ sent. link_flow_of sent (let_in next.space next.n)) sends
+    ap (λ sent. min sent (let_in next.space next.n)) sends
     ∙ link_flow-is (capacity_at net.plan up t) (capacity_at net.plan down t) (arriving (speed_at net.plan up t) (n up)) next.n (green_at net.plan up t) next.space
     (room_at net.cells down) space has
-    ∙ ap (λ m. link_flow_of (sending_at net t up (n up)) (receiving_flow m (capacity_at net.plan down t) (room_at net.cells down))) next_held
+    ∙ ap (λ m. min (sending_at net t up (n up)) (receiving_flow m (capacity_at net.plan down t) (room_at net.cells down))) next_held
 
 pub carried-none : (place next : Place) → min place.most place.n ≡ 0 → carried place next ≡ 0
 carried-none place next none = omega arith

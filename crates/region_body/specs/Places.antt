@@ -1,6 +1,5 @@
 -- Places side by side, and a step of them.
 use Rattle.std.specs.Prelude.{ℕ, zero, suc, ◌+◌, ◌-◌, ◌%◌, ◌^◌, ◌<◌, ◌≤◌, List, length, min, slice_index_or}
-use Rattle.ordinary_link.specs.LinkFlow.{link_flow_of}
 use Rattle.connector_flow.specs.Space.{let_in}
 use Rattle.region_body.specs.declared.place.Place.{Place}
 
@@ -13,7 +12,7 @@ place_at places p = slice_index_or places p no_place
 
 -- what the link from a place to the next one carries, by what the first can send and the second can receive
 abbrev pub carried : (place next : Place) → ℕ
-carried place next = link_flow_of (min place.most place.n) (let_in next.space next.n)
+carried place next = min (min place.most place.n) (let_in next.space next.n)
 
 -- what the link out of place p carries; none leaves the last place
 unfoldable pub link_out : List Place → (p : ℕ) → ℕ

@@ -10,10 +10,10 @@ use Rattle.network_file.specs.declared.connector.Connector.TheVariants.{Link, Me
 use Rattle.flow_model.specs.Bounds.{IsHeldInBounds, IsRowInBounds}
 use Rattle.flow_model.specs.Flows.{entering, flow_between, flow_of, inflow, leaving, outflow}
 use Rattle.flow_model.specs.Limits.{receiving_at, room_at, sending_at}
-use Rattle.flow_model.specs.Rows.{first_row, moved_row, next_row}
+use Rattle.flow_model.specs.Rows.{moved_row, next_row}
 use Rattle.flow_model.specs.State.{next_rows, occupancy, row_at, state_at}
 use Rattle.flow_model.specs.declared.row.Row.{Row}
-use Rattle.flow_model.proofs.States.{state_at-in_bounds}
+use Rattle.flow_model.proofs.States.{first_row, state_at-in_bounds}
 use Rattle.region_cut.specs.Cuttings.{region_at, region_count}
 use Rattle.region_cut.specs.Joins.{are_neighbours}
 use Rattle.region_cut.specs.CutFaults.{cut_of}

@@ -1,5 +1,4 @@
-use Rattle.std.proofs.Common.{◌+◌, sym, ap, ◌∙◌, arith}
-use Rattle.ordinary_link.specs.LinkFlow.{link_flow_of}
+use Rattle.std.proofs.Common.{◌+◌, sym, ap, ◌∙◌, min, arith}
 use Rattle.region_body.specs.Places.{place_at}
 use Rattle.region_body.proofs.AtSpeeds.{length-at_speeds, link_out-at_speeds}
 use Rattle.region_body.proofs.Neighbours.{link_out-last}
@@ -10,7 +9,7 @@ pub returns-then-p-places : goal.returns-then-p-places
 returns-then-p-places c =
     let places = c.args.places.now in
     let next = place_at places (c.args.p + 1) in
-    c.min.ensures ∙ ap (λ sent. link_flow_of sent c.let_in.result) c.sent_from.ensures ∙ ap (link_flow_of _) c.let_in.ensures.flow
+    c.min.ensures ∙ ap (λ sent. min sent c.let_in.result) c.sent_from.ensures ∙ ap (min _) c.let_in.ensures.flow
     ∙ sym (link_out-at_speeds places c.args.speeds.now c.args.p c.requires.there)
 
 pub returns-else-p-places : goal.returns-else-p-places

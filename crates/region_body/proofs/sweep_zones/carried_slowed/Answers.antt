@@ -1,6 +1,5 @@
 use Rattle.std.proofs.Common.{◌≡◌, ap, ◌∙◌, arith}
 use Rattle.std.specs.Prelude.{min}
-use Rattle.ordinary_link.specs.LinkFlow.{link_flow_of}
 use Rattle.region_body.specs.Speeds.{slowed_place}
 use Rattle.region_body.proofs.sweep_zones.carried_slowed.Goals as goal
 
@@ -10,5 +9,5 @@ returns-clause-flow c =
     let held = c.arriving_of_few.ensures.held in
     let sent : c.min-sent.result ≡ min (slowed_place c.args.place.now c.args.speed).most c.args.place.now.n =
     c.min-sent.ensures ∙ ap (λ a. min c.args.place.now.most a) flow ∙ omega (arith, flow, held) in
-    c.min.ensures ∙ ap (λ sent. link_flow_of sent c.let_in.result) sent
-    ∙ ap (link_flow_of (min (slowed_place c.args.place.now c.args.speed).most c.args.place.now.n)) c.let_in.ensures.flow
+    c.min.ensures ∙ ap (λ sent. min sent c.let_in.result) sent
+    ∙ ap (min (min (slowed_place c.args.place.now c.args.speed).most c.args.place.now.n)) c.let_in.ensures.flow
