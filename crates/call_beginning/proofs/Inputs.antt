@@ -1,5 +1,4 @@
 -- Inputs that a source may have, and refusals before a mode looks at one.
-use Rattle.std.specs.Prelude.{codes}
 use Rattle.std.proofs.Common.{◌≡◌, ℕ, ◌+◌, ◌<◌, Bool, true, false, List, [], Option, Some, None, IfSome, refl, length, replicate, arith, rules}
 use Rattle.std.proofs.lemmas.List.{length-replicate}
 use Rattle.command_words.specs.declared.mode.Mode.{Mode}
@@ -9,11 +8,9 @@ use Rattle.net_make.specs.Made.{made}
 use Rattle.call_ending.specs.Refusing.{IsRefusalOf, Why}
 use Rattle.call_ending.specs.declared.refusal.Refusal.{Refusal}
 use Rattle.call_ending.specs.declared.refusal.Refusal.TheVariants as refusal
-use Rattle.call_ending.specs.declared.status.Status.TheVariants as status
-use Rattle.call_beginning.specs.Input.{IsInputOf, most_input, most_read, reads_source, why_long}
+use Rattle.call_beginning.specs.Input.{IsInputOf, large_input, most_input, most_read, reads_source, why_long}
 
-pub too_long : (mode : Mode) (input : List ℕ) → most_input mode < length input →
-    why_long mode input ≡ Some (record { status = status.TooLarge; line = codes "ctm: too large: input\n" })
+pub too_long : (mode : Mode) (input : List ℕ) → most_input mode < length input → why_long mode input ≡ Some large_input
 too_long mode input large = search rules
 
 -- a refusal that was possible before a read could fail is possible

@@ -34,9 +34,12 @@ most_input Cut = 16_777_216
 most_input Check = 16_777_216
 most_input Convert = 16_777_216
 
+abbrev pub large_input : Why
+large_input = record { status = status.TooLarge; line = codes "ctm: too large: input\n" }
+
 -- why an input is refused before its mode looks at it: it is too long
 abbrev pub why_long : Mode → (input : List ℕ) → Option Why
-why_long mode input = if nat_lt (most_input mode) (length input) then Some (record { status = status.TooLarge; line = codes "ctm: too large: input\n" }) else None
+why_long mode input = if nat_lt (most_input mode) (length input) then Some large_input else None
 
 -- whether there is a request that reads the source
 abbrev pub is_read : Option Request → Bool

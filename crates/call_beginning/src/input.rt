@@ -1,11 +1,10 @@
-ghost use Rattle.std.specs.Prelude.{◌≡◌, ◌≤◌, ℕ, List, IfErr, IfOk, OnOk, Some, codes, false, length, true};
+ghost use Rattle.std.specs.Prelude.{◌≡◌, ◌≤◌, ℕ, List, IfErr, IfOk, OnOk, Some, false, length, true};
 ghost use Rattle.ctm_ports.specs.Count.{Rose};
 ghost use Rattle.ctm_ports.specs.ReadEnd.{LosesAtMost};
 ghost use Rattle.command_words.specs.Words.{IsInRange};
 ghost use Rattle.net_make.specs.Made.{made};
 ghost use Rattle.call_ending.specs.Refusing.{IsRefusalOf};
-ghost use Rattle.call_ending.specs.declared.status.Status.TheVariants as status;
-ghost use Rattle.call_beginning.specs.Input.{IsInputOf, IsReadWhole, is_read, most_input, most_read, reads_source, why_long};
+ghost use Rattle.call_beginning.specs.Input.{IsInputOf, IsReadWhole, is_read, large_input, most_input, most_read, reads_source, why_long};
 
 use call_ending::{Cause, Line, Refusal};
 use command_words::{Mode, Request};
@@ -71,7 +70,7 @@ fn most_input(mode: Mode) -> usize
 
 // The refusal of an input that has more.
 fn large_input() -> Refusal
-    ensures { IsRefusalOf (Some (record { status = status.TooLarge; line = codes "ctm: too large: input\n" })) ⊥ result }
+    ensures { IsRefusalOf (Some large_input) ⊥ result }
 {
     Refusal::Told(Cause::TooLarge, Line::Fixed(b"ctm: too large: input\n"))
 }

@@ -1,15 +1,16 @@
 -- What the observer of a call was told.
-use Rattle.std.specs.Prelude.{ℕ, ⊤, List, Ok, Err}
+use Rattle.std.specs.Prelude.{ℕ, ⊤, List, Option, None, Some}
 use Rattle.command_words.specs.declared.mode.Mode.{Mode}
 use Rattle.command_words.specs.declared.mode.Mode.TheVariants.{Run, Watch, Sample, Save, Resume, Choose, Recut, Cut, Check, Convert}
+use Rattle.command_words.specs.declared.request.Request.{Request}
 use Rattle.network_file.specs.Reading.{network_of}
 use Rattle.saved_run.specs.Reading.{content_of}
 use Rattle.call_beginning.specs.NetworkInput.{IsNetworkWith}
-use Rattle.call_beginning.specs.Task.{Task}
+use Rattle.call_beginning.specs.Task.{Task, task_of}
 use Rattle.network_run.specs.Telling.{Telling, TellingOfShots}
 use Rattle.run_modes.specs.Told.{HasToldRun, HasToldSample, HasToldWatch}
 use Rattle.saved_modes.specs.Told.{HasToldRecut, HasToldResume, HasToldSave}
-use Rattle.ctm_call.specs.Answer.{Answer, IsTextOf}
+use Rattle.ctm_call.specs.Answer.{IsTextTo}
 
 -- by the mode
 abbrev pub IsToldBy : (held freed : Telling) (watched : TellingOfShots) → Mode → Task → Type 0
@@ -24,7 +25,7 @@ IsToldBy held freed watched Cut task = ⊤
 IsToldBy held freed watched Check task = ⊤
 IsToldBy held freed watched Convert task = ⊤
 
--- a task that was answered by this text, and what the observer was told of it
-abbrev pub IsAnswered : (held freed : Telling) (watched : TellingOfShots) → Answer → List ℕ → Type 0
-IsAnswered held freed watched (Ok task) text = IsTextOf (Ok task) text × IsToldBy held freed watched task.request.mode task
-IsAnswered held freed watched (Err why) text = ⊥
+-- the request with this input was answered by this text, and the observer was told so of it
+abbrev pub IsAnswered : (held freed : Telling) (watched : TellingOfShots) → Option Request → (input text : List ℕ) → Type 0
+IsAnswered held freed watched None input text = ⊥
+IsAnswered held freed watched (Some request) input text = IsTextTo request input text × IsToldBy held freed watched request.mode (task_of request input)

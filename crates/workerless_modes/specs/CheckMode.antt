@@ -10,14 +10,11 @@ use Rattle.call_beginning.specs.NetworkInput.{IsNetworkWith, why_of_network}
 abbrev pub check_refused : (input : List ℕ) → Option Why
 check_refused input = why_of_network (network_of input) (λ net. None)
 
--- the first word, by the format
-abbrev pub format_word : (format : ℕ) → List ℕ
-format_word format = if format == 1 then codes "network" else if format == 2 then codes "network2" else codes "network3"
-
 -- `network,cells,connectors,T,signals,limits,demands`, in format 2 `network2,..,turns`, and in format 3 `network3,..,turns,speeds`
 unfoldable pub counts_line : Network → List ℕ
 counts_line net =
-    format_word net.format ++ count_field (length net.cells) ++ count_field (length net.connectors) ++ count_field net.steps
+    (if net.format == 1 then codes "network" else if net.format == 2 then codes "network2" else codes "network3")
+    ++ count_field (length net.cells) ++ count_field (length net.connectors) ++ count_field net.steps
     ++ count_field (signal_count net.plan) ++ count_field (limit_count net.plan) ++ count_field (demand_count net.plan)
     ++ (if nat_le 2 net.format then count_field (turn_count net.plan) else [])
     ++ (if nat_le 3 net.format then count_field (speed_count net.plan) else []) ++ codes "\n"
