@@ -25,11 +25,6 @@ abbrev pub why_of_network : Result Network NetFault → (Network → Option Why)
 why_of_network (Ok net) why = why net
 why_of_network (Err fault) why = Some (network_refused fault)
 
--- the file is a network of which this holds
-abbrev pub IsNetworkWith : Result Network NetFault → (Network → Type 0) → Type 0
-IsNetworkWith (Ok net) P = P net
-IsNetworkWith (Err fault) P = ⊥
-
 -- the refusal tells the fault with which a file was refused, as a fault is told of it, or that memory was refused
 abbrev pub IsToldOf : (NetFault → Why) → Refused NetFault → Refusal → Type 0
 IsToldOf why (Fault fault) told = IsRefusalOf (Some (why fault)) ⊥ told

@@ -1,6 +1,6 @@
 -- What `save` wrote of an input, `resume` ends with the text that `run` has of that input.
 use Rattle.std.specs.Option.{option_or}
-use Rattle.std.specs.Prelude.{◌↔◌, if◌then◌else◌, nat_lt}
+use Rattle.std.specs.Prelude.{◌↔◌, if◌then◌else◌, nat_lt, IsOkAnd}
 use Rattle.std.proofs.Common.{◌≡◌, ℕ, ◌≤◌, Bool, true, false, List, Option, Some, None, Result, Ok, Err, length, refl, sym, subst, ◌∙◌, arith}
 use Rattle.std.proofs.lemmas.Bool.Decides.{nat_tests}
 use Rattle.command_words.specs.declared.mode.Mode.{Mode}
@@ -11,7 +11,6 @@ use Rattle.network_file.specs.Reading.{network_of}
 use Rattle.network_file.specs.declared.fault.NetFault.{NetFault}
 use Rattle.call_ending.specs.Refusing.{Why}
 use Rattle.call_beginning.specs.Input.{large_input, most_input}
-use Rattle.call_beginning.specs.NetworkInput.{IsNetworkWith}
 use Rattle.call_beginning.specs.Task.{task_of}
 use Rattle.run_modes.proofs.PlainRun.{run_refused-plain, run_text-plain}
 use Rattle.saved_modes.specs.SaveMode.{IsSavedRun, IsSaveText}
@@ -35,7 +34,7 @@ texts-by request mode input text is fits none =
     )
 
 -- the network of an input of which something holds
-network-with : (read : Result Network NetFault) (P : Network → Type 0) → IsNetworkWith read P → (net : Network) × (read ≡ Ok net) × P net
+network-with : (read : Result Network NetFault) (P : Network → Type 0) → IsOkAnd read P → (net : Network) × (read ≡ Ok net) × P net
 network-with (Ok net) P holds = (net, refl, holds)
 network-with (Err fault) P holds = absurd holds
 

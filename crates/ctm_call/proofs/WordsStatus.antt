@@ -14,7 +14,7 @@ use Rattle.saved_run.specs.Content.{Content}
 use Rattle.saved_run.specs.Loading.{cutting_in, start_in}
 use Rattle.saved_run.specs.Reading.{content_of}
 use Rattle.saved_run.proofs.Starting.{decide_start}
-use Rattle.plan_choice.specs.Pieces.{candidates_in, most_plans, separators_in}
+use Rattle.plan_choice.specs.Pieces.{candidates_in}
 use Rattle.call_ending.specs.Ending.{HasEnded, SinkUse}
 use Rattle.call_ending.specs.Refusing.{Why}
 use Rattle.call_ending.specs.Status.{status_number}
@@ -28,7 +28,7 @@ use Rattle.call_beginning.specs.NetworkInput.{why_of_network}
 use Rattle.saved_modes.specs.ResumeMode.{why_by_content, why_by_cutting, why_unstarted}
 use Rattle.call_beginning.specs.Recording.{why_unrecorded}
 use Rattle.call_beginning.specs.Task.{Task, task_of}
-use Rattle.run_modes.specs.WatchMode.{large_shots, shown_rows, why_unshown}
+use Rattle.run_modes.specs.WatchMode.{why_unshown}
 use Rattle.network_run.specs.Telling.{Telling, TellingOfShots}
 
 -- a reason with another status
@@ -54,7 +54,7 @@ other-unrecorded : (net : Network) (every : ℕ) → IfSome (why_unrecorded net 
 other-unrecorded net every = other-if (nat_lt 4_000_000 (length net.cells * recorded_count net.steps every)) _ (other status.TooLarge (λ e. omega (arith, e)))
 
 other-unshown : (net : Network) (shots : ℕ) → IfSome (why_unshown net shots) IsOther
-other-unshown net shots = other-if (nat_lt 4_000_000 (shown_rows net shots)) large_shots (other status.TooLarge (λ e. omega (arith, e)))
+other-unshown net shots = other-if (nat_lt 4_000_000 (length net.cells * shots)) _ (other status.TooLarge (λ e. omega (arith, e)))
 
 other-start : {P : Type 0} (can : Dec P) → IfSome (why_unstarted can) IsOther
 other-start (yes can) = tt
@@ -77,13 +77,14 @@ other-candidates : (p : ℕ) (files : List (List ℕ)) → IfSome (why_of_candid
 other-candidates p [] = tt
 other-candidates p (file ∷ files) = other-candidate p (network_of file) (why_of_candidates (p + 1) files) (other-candidates (p + 1) files)
 
-other-plans : (counted : Bool) (separators : ℕ) (why : Option Why) → IfSome why IsOther → IfSome (if counted then why else Some (plans_refused separators)) IsOther
-other-plans true separators why is = is
-other-plans false separators why is = other status.Plans (λ e. omega (arith, e))
+other-plans : (counted : Bool) (plans : ℕ) (why : Option Why) → IfSome why IsOther → IfSome (if counted then why else Some (plans_refused plans)) IsOther
+other-plans true plans why is = is
+other-plans false plans why is = other status.Plans (λ e. omega (arith, e))
 
 other-choose : (input : List ℕ) → IfSome (choose_refused input) IsOther
 other-choose input =
-    other-plans (nat_lt 0 (separators_in input) && nat_le (separators_in input) most_plans) (separators_in input) (why_of_candidates 0 (candidates_in input)) (other-candidates 0 (candidates_in input))
+    let plans = length (candidates_in input) in
+    other-plans (nat_le 1 plans && nat_le plans 16) plans (why_of_candidates 0 (candidates_in input)) (other-candidates 0 (candidates_in input))
 
 -- no mode refuses its input with that status
 other-by : (mode : Mode) (task : Task) → IfSome (why_by mode task) IsOther

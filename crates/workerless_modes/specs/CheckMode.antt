@@ -1,11 +1,11 @@
 -- The counts of a network: why there are none, and their text.
-use Rattle.std.specs.Prelude.{◌≡◌, ℕ, List, [], Option, None, ◌++◌, ◌==◌, if◌then◌else◌, length, codes, nat_le}
+use Rattle.std.specs.Prelude.{◌≡◌, ℕ, List, [], Option, None, ◌++◌, ◌==◌, if◌then◌else◌, length, codes, nat_le, IsOkAnd}
 use Rattle.signal_plan.specs.Counts.{demand_count, limit_count, signal_count, speed_count, turn_count}
 use Rattle.network_file.specs.Network.{Network}
 use Rattle.network_file.specs.Reading.{network_of}
 use Rattle.line_fields.specs.Fields.{count_field}
 use Rattle.call_ending.specs.Refusing.{Why}
-use Rattle.call_beginning.specs.NetworkInput.{IsNetworkWith, why_of_network}
+use Rattle.call_beginning.specs.NetworkInput.{why_of_network}
 
 abbrev pub check_refused : (input : List ℕ) → Option Why
 check_refused input = why_of_network (network_of input) (λ net. None)
@@ -20,4 +20,4 @@ counts_line net =
     ++ (if nat_le 3 net.format then count_field (speed_count net.plan) else []) ++ codes "\n"
 
 abbrev pub IsCheckText : (input : List ℕ) → List ℕ → Type 0
-IsCheckText input text = IsNetworkWith (network_of input) (λ net. text ≡ counts_line net)
+IsCheckText input text = IsOkAnd (network_of input) (λ net. text ≡ counts_line net)

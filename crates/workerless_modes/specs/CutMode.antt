@@ -1,5 +1,5 @@
 -- A grown cutting of a network: why there is none, and its text.
-use Rattle.std.specs.Prelude.{◌≡◌, ℕ, ◌≤◌, ◌++◌, List, Option, None, codes, length}
+use Rattle.std.specs.Prelude.{◌≡◌, ℕ, ◌≤◌, ◌++◌, List, Option, None, codes, length, IsOkAnd}
 use Rattle.network_file.specs.Cells.{name_at}
 use Rattle.network_file.specs.Network.{Network}
 use Rattle.network_file.specs.Reading.{network_of}
@@ -8,7 +8,7 @@ use Rattle.region_cut.specs.Cuttings.{even_cutting, region_at}
 use Rattle.cut_grow.specs.CutConnectors.{cuts}
 use Rattle.cut_grow.specs.Grown.{IsGrown}
 use Rattle.call_ending.specs.Refusing.{Why}
-use Rattle.call_beginning.specs.NetworkInput.{IsNetworkWith, why_of_network}
+use Rattle.call_beginning.specs.NetworkInput.{why_of_network}
 use Rattle.call_beginning.specs.Task.{Task}
 use Rattle.call_beginning.specs.UsedCutting.{regions_asked}
 
@@ -36,4 +36,4 @@ pub record ShowsGrown (net : Network) (k : ℕ) (text : List ℕ) : Type 0 where
 
 -- the regions of the file aren't looked at
 abbrev pub IsCutText : Task → List ℕ → Type 0
-IsCutText task text = IsNetworkWith (network_of task.input) (λ net. ShowsGrown net (regions_asked net task.request) text)
+IsCutText task text = IsOkAnd (network_of task.input) (λ net. ShowsGrown net (regions_asked net task.request) text)

@@ -1,5 +1,5 @@
 use Rattle.std.proofs.Common.{arith}
-use Rattle.workerless_modes.proofs.Choosing.{cut-refusal, cut-text, files-few, plans-told}
+use Rattle.workerless_modes.proofs.Choosing.{cut-refusal, cut-text, files-few}
 use Rattle.workerless_modes.proofs.choose_mode.choose_text.Goals as goal
 
 pub returns-in-Ok-clause-text : goal.returns-in-Ok-clause-text
