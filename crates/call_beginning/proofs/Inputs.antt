@@ -1,6 +1,5 @@
 -- Inputs that a source may have, and refusals before a mode looks at one.
-use Rattle.std.proofs.Common.{◌≡◌, ℕ, ◌+◌, ◌<◌, Bool, true, false, List, [], Option, Some, None, IfSome, refl, sym, ◌∙◌, length, replicate, arith, rules}
-use Rattle.std.proofs.lemmas.Bool.{false≢true}
+use Rattle.std.proofs.Common.{◌≡◌, ℕ, ◌+◌, ◌<◌, Bool, true, false, List, [], Option, Some, None, IfSome, refl, length, replicate, arith, rules}
 use Rattle.std.proofs.lemmas.List.{length-replicate}
 use Rattle.command_words.specs.declared.mode.Mode.{Mode}
 use Rattle.command_words.specs.declared.request.Request.{Request}
@@ -9,7 +8,7 @@ use Rattle.net_make.specs.Made.{made}
 use Rattle.call_ending.specs.Refusing.{IsRefusalOf, Why}
 use Rattle.call_ending.specs.declared.refusal.Refusal.{Refusal}
 use Rattle.call_ending.specs.declared.refusal.Refusal.TheVariants as refusal
-use Rattle.call_beginning.specs.Input.{IsInput, IsInputOf, large_input, most_input, most_read, reads_source, why_long}
+use Rattle.call_beginning.specs.Input.{IsInputOf, large_input, most_input, most_read, reads_source, why_long}
 
 pub too_long : (mode : Mode) (input : List ℕ) → most_input mode < length input → why_long mode input ≡ Some large_input
 too_long mode input large = search rules
@@ -33,14 +32,14 @@ long_input most None none = (replicate (most + 1) 0, tt, omega (arith, length-re
 long_input most (Some bytes) long = (bytes, refl, long)
 
 -- where a request makes its input, that is its input whatever the source has
-pub made_input_is : (request : Request) (left : Option (List ℕ)) → reads_source request.mode ≡ false → IsInput request left (made request.size request.seed)
-made_input_is request left makes = record { read = λ reads. absurd (false≢true (sym makes ∙ reads)); own = λ no. refl }
+pub made_input_is : (request : Request) (left : Option (List ℕ)) → reads_source request.mode ≡ false → IsInputOf (Some request) left (made request.size request.seed)
+made_input_is request left makes = rw makes refl
 
 -- and else what the source has
-pub read_input_is : (request : Request) (left : Option (List ℕ)) (input : List ℕ) → reads_source request.mode ≡ true → IfSome left (λ bytes. input ≡ bytes) → IsInput request left input
-read_input_is request left input reads has = record { read = λ yes. has; own = λ makes. absurd (false≢true (sym makes ∙ reads)) }
+pub read_input_is : (request : Request) (left : Option (List ℕ)) (input : List ℕ) → reads_source request.mode ≡ true → IfSome left (λ bytes. input ≡ bytes) → IsInputOf (Some request) left input
+read_input_is request left input reads has = rw reads has
 
-some_input_by : (request : Request) (left : Option (List ℕ)) (reads : Bool) → reads_source request.mode ≡ reads → (input : List ℕ) × IsInput request left input
+some_input_by : (request : Request) (left : Option (List ℕ)) (reads : Bool) → reads_source request.mode ≡ reads → (input : List ℕ) × IsInputOf (Some request) left input
 some_input_by request left true reads = let some = some_input left in (some.0, read_input_is request left some.0 reads some.1)
 some_input_by request left false makes = (made request.size request.seed, made_input_is request left makes)
 

@@ -1,5 +1,5 @@
 -- The input of a request: where it comes from, how long it may be, and how much of the source is read.
-use Rattle.std.specs.Prelude.{◌≡◌, ℕ, ◌+◌, Bool, true, false, List, Option, Some, None, IfSome, if◌then◌else◌, ⊤, codes, length, nat_lt}
+use Rattle.std.specs.Prelude.{◌≡◌, ℕ, ◌+◌, Bool, true, false, List, Option, Some, None, IfSome, if◌then◌else◌, codes, length, nat_lt}
 use Rattle.std.specs.Io.KnownBytes.{IsAtEnd}
 use Rattle.command_words.specs.declared.mode.Mode.{Mode}
 use Rattle.command_words.specs.declared.mode.Mode.TheVariants.{Run, Watch, Sample, Save, Resume, Choose, Recut, Cut, Check, Convert}
@@ -41,28 +41,20 @@ large_input = record { status = status.TooLarge; line = codes "ctm: too large: i
 abbrev pub why_long : Mode → (input : List ℕ) → Option Why
 why_long mode input = if nat_lt (most_input mode) (length input) then Some large_input else None
 
--- the input of a request: what the source has left, where it tells it, and of `sample` the made network
-pub record IsInput (request : Request) (left : Option (List ℕ)) (input : List ℕ) : Type 0 where
-  pub read : reads_source request.mode ≡ true → IfSome left (λ bytes. input ≡ bytes)
-  pub own : reads_source request.mode ≡ false → input ≡ made request.size request.seed
+-- whether there is a request that reads the source
+abbrev pub is_read : Option Request → Bool
+is_read None = false
+is_read (Some request) = reads_source request.mode
 
+-- the input of a request: what the source has left, where it tells it, and of `sample` the made network
 abbrev pub IsInputOf : Option Request → (left : Option (List ℕ)) → (input : List ℕ) → Type 0
 IsInputOf None left input = IfSome left (λ bytes. input ≡ bytes)
-IsInputOf (Some request) left input = IsInput request left input
-
--- there is a request that reads the source
-abbrev pub Reads : Option Request → Type 0
-Reads None = ⊥
-Reads (Some request) = reads_source request.mode ≡ true
-
--- there is none
-abbrev pub IsUnread : Option Request → Type 0
-IsUnread None = ⊤
-IsUnread (Some request) = reads_source request.mode ≡ false
+IsInputOf (Some request) left input =
+    IfSome (if reads_source request.mode then left else Some (made request.size request.seed)) (λ bytes. input ≡ bytes)
 
 -- the source is at its end where the request reads it
 abbrev pub IsReadWhole : Option Request → (left : Option (List ℕ)) → Type 0
-IsReadWhole request left = Reads request → IsAtEnd left
+IsReadWhole request left = is_read request ≡ true → IsAtEnd left
 
 -- the most bytes of the source that are read: one more than the input may have
 abbrev pub most_read : Option Request → ℕ

@@ -1,10 +1,10 @@
 -- Inputs that are to be networks.
 use Rattle.std.specs.Prelude.{◌≡◌, ℕ, List, Option, Some, Result, Ok, Err, ◌++◌, codes, decimal}
+use Rattle.no_memory.specs.declared.refused.Refused.{Refused}
+use Rattle.no_memory.specs.declared.refused.Refused.TheVariants.{Fault, NoMemory}
 use Rattle.network_file.specs.FaultCode.{code_name, code_number}
 use Rattle.network_file.specs.Network.{Network}
 use Rattle.network_file.specs.declared.fault.NetFault.{NetFault}
-use Rattle.network_file.specs.declared.fault.NetRefusal.{NetRefusal}
-use Rattle.network_file.specs.declared.fault.NetRefusal.TheVariants as of_net
 use Rattle.call_ending.specs.Refusing.{IsRefusalOf, Why}
 use Rattle.call_ending.specs.declared.refusal.Refusal.{Refusal}
 use Rattle.call_ending.specs.declared.refusal.Refusal.TheVariants as refusal
@@ -17,23 +17,15 @@ fault_told fault =
     ++ codes " code " ++ decimal (code_number fault.code)
     ++ codes " " ++ code_name fault.code ++ codes "\n"
 
-abbrev pub network_line : NetFault → List ℕ
-network_line fault = codes "ctm: network: " ++ fault_told fault
-
 abbrev pub network_refused : NetFault → Why
-network_refused fault = record { status = status.Network; line = network_line fault }
+network_refused fault = record { status = status.Network; line = codes "ctm: network: " ++ fault_told fault }
 
 -- why there is no text: the file's first fault, or what stands against a text of its network
 abbrev pub why_of_network : Result Network NetFault → (Network → Option Why) → Option Why
 why_of_network (Ok net) why = why net
 why_of_network (Err fault) why = Some (network_refused fault)
 
--- the file is a network of which this holds
-abbrev pub IsNetworkWith : Result Network NetFault → (Network → Type 0) → Type 0
-IsNetworkWith (Ok net) P = P net
-IsNetworkWith (Err fault) P = ⊥
-
 -- the refusal tells the fault with which a file was refused, as a fault is told of it, or that memory was refused
-abbrev pub IsToldOf : (NetFault → Why) → NetRefusal → Refusal → Type 0
-IsToldOf why (of_net.Fault fault) told = IsRefusalOf (Some (why fault)) ⊥ told
-IsToldOf why of_net.NoMemory told = told ≡ refusal.NoMemory
+abbrev pub IsToldOf : (NetFault → Why) → Refused NetFault → Refusal → Type 0
+IsToldOf why (Fault fault) told = IsRefusalOf (Some (why fault)) ⊥ told
+IsToldOf why NoMemory told = told ≡ refusal.NoMemory

@@ -5,13 +5,8 @@ use Rattle.delay_report.specs.Report.{recorded_count}
 use Rattle.call_ending.specs.Refusing.{Why}
 use Rattle.call_ending.specs.declared.status.Status.TheVariants as status
 
--- how many values a run records: cells times recorded steps
-abbrev pub recorded_values : Network → (every : ℕ) → ℕ
-recorded_values net every = length net.cells * recorded_count net.steps every
-
-abbrev pub large_record : Why
-large_record = record { status = status.TooLarge; line = codes "ctm: too large: record\n" }
-
--- more than 4,000,000 are too many
+-- more than 4,000,000 values, cells times recorded steps, are too many
 abbrev pub why_unrecorded : Network → (every : ℕ) → Option Why
-why_unrecorded net every = if nat_lt 4_000_000 (recorded_values net every) then Some large_record else None
+why_unrecorded net every =
+    if nat_lt 4_000_000 (length net.cells * recorded_count net.steps every)
+    then Some (record { status = status.TooLarge; line = codes "ctm: too large: record\n" }) else None

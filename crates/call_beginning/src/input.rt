@@ -1,10 +1,10 @@
-ghost use Rattle.std.specs.Prelude.{◌≡◌, ◌≤◌, ℕ, List, IfErr, IfOk, OnOk, Some, length};
+ghost use Rattle.std.specs.Prelude.{◌≡◌, ◌≤◌, ℕ, List, IfErr, IfOk, OnOk, Some, false, length, true};
 ghost use Rattle.ctm_ports.specs.Count.{Rose};
 ghost use Rattle.ctm_ports.specs.ReadEnd.{LosesAtMost};
 ghost use Rattle.command_words.specs.Words.{IsInRange};
 ghost use Rattle.net_make.specs.Made.{made};
 ghost use Rattle.call_ending.specs.Refusing.{IsRefusalOf};
-ghost use Rattle.call_beginning.specs.Input.{IsInput, IsReadWhole, IsUnread, Reads, large_input, most_input, most_read, reads_source, why_long};
+ghost use Rattle.call_beginning.specs.Input.{IsInputOf, IsReadWhole, is_read, large_input, most_input, most_read, reads_source, why_long};
 
 use call_ending::{Cause, Line, Refusal};
 use command_words::{Mode, Request};
@@ -23,10 +23,10 @@ pub fn input_of<S: Source>(
     source: &mut S,
 ) -> Result<Vec<u8>, Refusal>
     requires in_range { IsInRange request }
-    ensures input { IfOk result (λ input. IsInput request (S.left source.old) input.items × (length input.items ≤ most_input request.mode)) }
-    ensures refusal { IfErr result (λ refusal. (input : List ℕ) × IsInput request (S.left source.old) input
-        × IsRefusalOf (why_long request.mode input) (Reads (Some request) × Rose (S.faults source.old) (S.faults source.new)) refusal) }
-    ensures unread { IsUnread (Some request) → source.new ≡ source.old }
+    ensures input { IfOk result (λ input. IsInputOf (Some request) (S.left source.old) input.items × (length input.items ≤ most_input request.mode)) }
+    ensures refusal { IfErr result (λ refusal. (input : List ℕ) × IsInputOf (Some request) (S.left source.old) input
+        × IsRefusalOf (why_long request.mode input) ((is_read (Some request) ≡ true) × Rose (S.faults source.old) (S.faults source.new)) refusal) }
+    ensures unread { is_read (Some request) ≡ false → source.new ≡ source.old }
     ensures at_end { OnOk result (IsReadWhole (Some request) (S.left source.new)) }
     ensures bounded { LosesAtMost (S.left source.old) (S.left source.new) (most_read (Some request)) }
 {

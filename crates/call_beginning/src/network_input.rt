@@ -1,14 +1,14 @@
-ghost use Rattle.std.specs.Prelude.{◌≡◌, ◌≤◌, ◌++◌, IfErr, IfOk, Ok, OnOk, Option, length};
+ghost use Rattle.std.specs.Prelude.{◌≡◌, ◌≤◌, ◌++◌, IfErr, IfOk, Ok, OnOk, Option, codes, length};
 ghost use Rattle.network_file.specs.Network.{Network};
 ghost use Rattle.network_file.specs.Reading.{network_of};
 ghost use Rattle.network_file.specs.declared.limits.TheConstants.{MOST_BYTES};
 ghost use Rattle.call_ending.specs.Refusing.{IsRefusalOf, Why};
-ghost use Rattle.call_beginning.specs.NetworkInput.{IsToldOf, fault_told, network_line, network_refused, why_of_network};
+ghost use Rattle.call_beginning.specs.NetworkInput.{IsToldOf, fault_told, network_refused, why_of_network};
 
 use call_ending::{Cause, Line, Refusal};
 use itoa::Buffer;
-use network_file::{Net, NetFault, NetRefusal};
-use no_memory::NoMemory;
+use network_file::{Net, NetFault};
+use no_memory::{NoMemory, Refused};
 use std::alloc::Global;
 
 /// The network that an input is, or the refusal of a file by its first fault.
@@ -24,21 +24,21 @@ pub fn network_in(alloc: Global, input: &[u8]) -> Result<Net, Refusal>
 }
 
 /// The refusal of a file, with the line that tells its fault.
-pub fn refused(alloc: Global, refusal: NetRefusal) -> Refusal
+pub fn refused(alloc: Global, refusal: Refused<NetFault>) -> Refusal
     ensures { IsToldOf network_refused refusal result }
 {
     match refusal {
-        NetRefusal::Fault(fault) => match fault_line(alloc, fault) {
+        Refused::Fault(fault) => match fault_line(alloc, fault) {
             Ok(line) => Refusal::Told(Cause::Network, Line::Made(line)),
             Err(NoMemory) => Refusal::NoMemory,
         },
-        NetRefusal::NoMemory => Refusal::NoMemory,
+        Refused::NoMemory => Refusal::NoMemory,
     }
 }
 
 // The line that tells a network's fault.
 fn fault_line(alloc: Global, fault: NetFault) -> Result<Vec<u8>, NoMemory>
-    ensures { IfOk result (λ line. line.items ≡ network_line fault) }
+    ensures { IfOk result (λ line. line.items ≡ codes "ctm: network: " ++ fault_told fault) }
 {
     let mut line = Vec::new(alloc);
     line.extend_from_slice(b"ctm: network: ")?;

@@ -1,6 +1,9 @@
 -- Status Words is the answer to words that are refused alone.
-use Rattle.std.proofs.Common.{◌≡◌, ◌⊎◌, ℕ, Bool, true, false, inl, inr, List, Option, Some, None, Result, Ok, Err, String, Global, IfSome, refl, subst, sym, ap, ◌∙◌, if◌then◌else◌, [], ◌∷◌, ◌+◌, length, nat_lt, arith}
-use Rattle.std.specs.Prelude.{◌&&◌, nat_le}
+use Rattle.std.proofs.Common.{◌≡◌, ◌⊎◌, ℕ, Bool, true, false, inl, inr, List, Option, Some, None, Result, Ok, Err, IfSome, refl, subst, ap, if◌then◌else◌, [], ◌∷◌, ◌+◌, length, nat_lt, arith}
+use Rattle.std.specs.Option.{option_or}
+use Rattle.std.specs.Prelude.{◌&&◌, ◌*◌, nat_le}
+use Rattle.std.proofs.lemmas.Bool.{false≢true}
+use Rattle.delay_report.specs.Report.{recorded_count}
 use Rattle.network_file.specs.Network.{Network}
 use Rattle.network_file.specs.Reading.{network_of}
 use Rattle.network_file.specs.declared.fault.NetFault.{NetFault}
@@ -11,24 +14,22 @@ use Rattle.saved_run.specs.Content.{Content}
 use Rattle.saved_run.specs.Loading.{cutting_in, start_in}
 use Rattle.saved_run.specs.Reading.{content_of}
 use Rattle.saved_run.proofs.Starting.{decide_start}
-use Rattle.plan_choice.specs.Pieces.{candidates_in, most_plans, separators_in}
+use Rattle.plan_choice.specs.Pieces.{candidates_in}
 use Rattle.call_ending.specs.Ending.{HasEnded, SinkUse}
 use Rattle.call_ending.specs.Refusing.{Why}
 use Rattle.call_ending.specs.Status.{status_number}
 use Rattle.call_ending.specs.declared.status.Status.{Status}
 use Rattle.call_ending.specs.declared.status.Status.TheVariants as status
 use Rattle.ctm_call.specs.Telling.{IsAnswered}
-use Rattle.ctm_call.specs.Answer.{answer_of, answer_to, answer_unless, why_by, why_in}
+use Rattle.ctm_call.specs.Answer.{why_by, why_none}
 use Rattle.workerless_modes.specs.ChooseMode.{choose_refused, plans_refused, why_of_candidate, why_of_candidates}
-use Rattle.call_beginning.specs.Input.{Reads, large_input, most_input}
+use Rattle.call_beginning.specs.Input.{is_read, large_input, most_input, why_long}
 use Rattle.call_beginning.specs.NetworkInput.{why_of_network}
 use Rattle.saved_modes.specs.ResumeMode.{why_by_content, why_by_cutting, why_unstarted}
-use Rattle.call_beginning.specs.Recording.{large_record, recorded_values, why_unrecorded}
+use Rattle.call_beginning.specs.Recording.{why_unrecorded}
 use Rattle.call_beginning.specs.Task.{Task, task_of}
-use Rattle.run_modes.specs.WatchMode.{first_why, large_shots, shown_rows, why_unshown}
-use Rattle.call_beginning.specs.Words.{requested}
+use Rattle.run_modes.specs.WatchMode.{why_unshown}
 use Rattle.network_run.specs.Telling.{Telling, TellingOfShots}
-use Rattle.ctm_call.proofs.AnswerFacts.{answer_of-request, answer_of-words}
 
 -- a reason with another status
 abbrev IsOther : Why → Type 0
@@ -41,7 +42,7 @@ other-if : (yes : Bool) (why : Why) → IsOther why → IfSome (if yes then Some
 other-if true why is = is
 other-if false why is = tt
 
-other-first : (one later : Option Why) → IfSome one IsOther → IfSome later IsOther → IfSome (first_why one later) IsOther
+other-first : (one later : Option Why) → IfSome one IsOther → IfSome later IsOther → IfSome (option_or one later) IsOther
 other-first (Some why) later is also = is
 other-first None later is also = also
 
@@ -50,10 +51,10 @@ other-network (Ok net) why is = is net
 other-network (Err fault) why is = other status.Network (λ e. omega (arith, e))
 
 other-unrecorded : (net : Network) (every : ℕ) → IfSome (why_unrecorded net every) IsOther
-other-unrecorded net every = other-if (nat_lt 4_000_000 (recorded_values net every)) large_record (other status.TooLarge (λ e. omega (arith, e)))
+other-unrecorded net every = other-if (nat_lt 4_000_000 (length net.cells * recorded_count net.steps every)) _ (other status.TooLarge (λ e. omega (arith, e)))
 
 other-unshown : (net : Network) (shots : ℕ) → IfSome (why_unshown net shots) IsOther
-other-unshown net shots = other-if (nat_lt 4_000_000 (shown_rows net shots)) large_shots (other status.TooLarge (λ e. omega (arith, e)))
+other-unshown net shots = other-if (nat_lt 4_000_000 (length net.cells * shots)) _ (other status.TooLarge (λ e. omega (arith, e)))
 
 other-start : {P : Type 0} (can : Dec P) → IfSome (why_unstarted can) IsOther
 other-start (yes can) = tt
@@ -76,19 +77,20 @@ other-candidates : (p : ℕ) (files : List (List ℕ)) → IfSome (why_of_candid
 other-candidates p [] = tt
 other-candidates p (file ∷ files) = other-candidate p (network_of file) (why_of_candidates (p + 1) files) (other-candidates (p + 1) files)
 
-other-plans : (counted : Bool) (separators : ℕ) (why : Option Why) → IfSome why IsOther → IfSome (if counted then why else Some (plans_refused separators)) IsOther
-other-plans true separators why is = is
-other-plans false separators why is = other status.Plans (λ e. omega (arith, e))
+other-plans : (counted : Bool) (plans : ℕ) (why : Option Why) → IfSome why IsOther → IfSome (if counted then why else Some (plans_refused plans)) IsOther
+other-plans true plans why is = is
+other-plans false plans why is = other status.Plans (λ e. omega (arith, e))
 
 other-choose : (input : List ℕ) → IfSome (choose_refused input) IsOther
 other-choose input =
-    other-plans (nat_lt 0 (separators_in input) && nat_le (separators_in input) most_plans) (separators_in input) (why_of_candidates 0 (candidates_in input)) (other-candidates 0 (candidates_in input))
+    let plans = length (candidates_in input) in
+    other-plans (nat_le 1 plans && nat_le plans 16) plans (why_of_candidates 0 (candidates_in input)) (other-candidates 0 (candidates_in input))
 
 -- no mode refuses its input with that status
 other-by : (mode : Mode) (task : Task) → IfSome (why_by mode task) IsOther
 other-by Run task = other-network (network_of task.input) (λ net. why_unrecorded net task.request.every) (λ net. other-unrecorded net task.request.every)
 other-by Watch task =
-    other-network (network_of task.input) (λ net. first_why (why_unrecorded net task.request.every) (why_unshown net task.request.shots))
+    other-network (network_of task.input) (λ net. option_or (why_unrecorded net task.request.every) (why_unshown net task.request.shots))
     (λ net. other-first (why_unrecorded net task.request.every) (why_unshown net task.request.shots) (other-unrecorded net task.request.every) (other-unshown net task.request.shots))
 other-by Sample task = other-network (network_of task.input) (λ net. None) (λ net. tt)
 other-by Choose task = other-choose task.input
@@ -99,61 +101,33 @@ other-by Convert task = other-network (network_of task.input) (λ net. None) (λ
 other-by Save task = other-network (network_of task.input) (λ net. None) (λ net. tt)
 other-by Resume task = other-content (content_of task.input)
 
-other-unless : (large : Bool) (why : Option Why) (task : Task) → IfSome why IsOther → IfSome (why_in (if large then Err large_input else answer_unless why task)) IsOther
-other-unless true why task is = other status.TooLarge (λ e. omega (arith, e))
-other-unless false (Some why) task is = is
-other-unless false None task is = tt
-
-other-to : (request : Request) (input : List ℕ) → IfSome (why_in (answer_to request input)) IsOther
-other-to request input =
-    other-unless (nat_lt (most_input request.mode) (length input)) (why_by request.mode (task_of request input)) (task_of request input) (other-by request.mode (task_of request input))
-
-not-asked : (held freed : Telling) (watched : TellingOfShots) (words : List (String Global)) (input : List ℕ) (IsRead ReadFailed : Type 0) (told : Status) (out err : SinkUse) (request : Request) →
-    requested words ≡ Some request → HasEnded (IsAnswered held freed watched (answer_of words input)) (why_in (answer_of words input)) IsRead ReadFailed told out err → told ≡ status.Words → ⊥
-not-asked held freed watched words input IsRead ReadFailed told out err request asked ended is = elim ended [
-  | inl done ↦ other status.Done (λ e. omega (arith, e)) (sym done.ends ∙ is)
-  | inr more ↦ elim more [
-    | inl refused ↦
-        let answered = subst (λ answer. why_in answer ≡ Some refused.why) (answer_of-request words input request asked) refused.answer in
-        (subst (λ why. IfSome why IsOther) answered (other-to request input)) (sym refused.ends ∙ is)
-    | inr more ↦ elim more [
-      | inl fault ↦ other status.ReadFault (λ e. omega (arith, e)) (sym fault.ends ∙ is)
-      | inr more ↦ elim more [
-        | inl fault ↦ other status.WriteFault (λ e. omega (arith, e)) (sym fault.ends ∙ is)
-        | inr memory ↦ other status.NoMemory (λ e. omega (arith, e)) (sym memory.ends ∙ is)
-      ]
-    ]
-  ]
-]
-
-words-by : (held freed : Telling) (watched : TellingOfShots) (words : List (String Global)) (input : List ℕ) (IsRead ReadFailed : Type 0) (told : Status) (out err : SinkUse) (asked : Option Request) →
-    requested words ≡ asked → HasEnded (IsAnswered held freed watched (answer_of words input)) (why_in (answer_of words input)) IsRead ReadFailed told out err → told ≡ status.Words → requested words ≡ None
-words-by held freed watched words input IsRead ReadFailed told out err None asked ended is = asked
-words-by held freed watched words input IsRead ReadFailed told out err (Some request) asked ended is = absurd (not-asked held freed watched words input IsRead ReadFailed told out err request asked ended is)
+-- nor do the words that ask for something with this input
+other-none : (request : Request) (input : List ℕ) → IfSome (why_none (Some request) input) IsOther
+other-none request input =
+    other-first (why_long request.mode input) (why_by request.mode (task_of request input))
+    (other-if (nat_lt (most_input request.mode) (length input)) large_input (other status.TooLarge (λ e. omega (arith, e)))) (other-by request.mode (task_of request input))
 
 -- a call that ends so has words that are refused
-pub words-refused : (held freed : Telling) (watched : TellingOfShots) (words : List (String Global)) (input : List ℕ) (IsRead ReadFailed : Type 0) (told : Status) (out err : SinkUse) →
-    HasEnded (IsAnswered held freed watched (answer_of words input)) (why_in (answer_of words input)) IsRead ReadFailed told out err → told ≡ status.Words → requested words ≡ None
-words-refused held freed watched words input IsRead ReadFailed told out err = words-by held freed watched words input IsRead ReadFailed told out err (requested words) refl
+pub words-refused : (IsText : List ℕ → Type 0) (asked : Option Request) (input : List ℕ) (IsRead ReadFailed : Type 0) (told : Status) (out err : SinkUse) →
+    HasEnded IsText (why_none asked input) IsRead ReadFailed told out err → told ≡ status.Words → asked ≡ None
+words-refused IsText None input IsRead ReadFailed told out err ended is = refl
+words-refused IsText (Some request) input IsRead ReadFailed told out err ended is =
+    let by_words = subst (λ told. HasEnded IsText (why_none (Some request) input) IsRead ReadFailed told out err) is ended in
+    absurd (subst (λ why. IfSome why IsOther) by_words.1 (other-none request input) refl)
 
 -- and with such words it ends so, unless memory was refused
-pub refused-words : (held freed : Telling) (watched : TellingOfShots) (words : List (String Global)) (input : List ℕ) (IsRead Rose : Type 0) (told : Status) (out err : SinkUse) → requested words ≡ None →
-    HasEnded (IsAnswered held freed watched (answer_of words input)) (why_in (answer_of words input)) IsRead (Reads (requested words) × Rose) told out err →
+by-words : (held freed : Telling) (watched : TellingOfShots) (input : List ℕ) (IsRead Rose : Type 0) (told : Status) (out err : SinkUse) →
+    HasEnded (IsAnswered held freed watched None input) (why_none None input) IsRead ((is_read None ≡ true) × Rose) told out err →
     (told ≡ status.Words) ⊎ (told ≡ status.NoMemory)
-refused-words held freed watched words input IsRead Rose told out err none ended =
-    let answered = answer_of-words words input none in
-    elim ended [
-      | inl done ↦ absurd (subst (λ answer. IsAnswered held freed watched answer done.text) answered done.is_text)
-      | inr more ↦ elim more [
-        | inl refused ↦
-            let why = subst (λ answer. why_in answer ≡ Some refused.why) answered refused.answer in
-            inl (refused.ends ∙ subst (λ why. IfSome why (λ w. w.status ≡ status.Words)) why refl)
-        | inr more ↦ elim more [
-          | inl fault ↦ absurd (subst Reads none fault.failed.0)
-          | inr more ↦ elim more [
-            | inl fault ↦ absurd (subst (λ answer. IsAnswered held freed watched answer fault.cut_off.text) answered fault.cut_off.is_text)
-            | inr memory ↦ inr memory.ends
-          ]
-        ]
-      ]
-    ]
+by-words held freed watched input IsRead Rose status.Done out err ended = absurd ended.1
+by-words held freed watched input IsRead Rose status.ReadFault out err ended = absurd (false≢true ended.0.0)
+by-words held freed watched input IsRead Rose status.WriteFault out err ended = absurd ended.1.is_text
+by-words held freed watched input IsRead Rose status.NoMemory out err ended = inr refl
+by-words held freed watched input IsRead Rose other out err ended = inl (subst (λ why. IfSome why (λ w. w.status ≡ status.Words)) ended.1 refl)
+
+pub refused-words : (held freed : Telling) (watched : TellingOfShots) (asked : Option Request) (input : List ℕ) (IsRead Rose : Type 0) (told : Status) (out err : SinkUse) → asked ≡ None →
+    HasEnded (IsAnswered held freed watched asked input) (why_none asked input) IsRead ((is_read asked ≡ true) × Rose) told out err →
+    (told ≡ status.Words) ⊎ (told ≡ status.NoMemory)
+refused-words held freed watched asked input IsRead Rose told out err none ended =
+    by-words held freed watched input IsRead Rose told out err
+    (subst (λ asked. HasEnded (IsAnswered held freed watched asked input) (why_none asked input) IsRead ((is_read asked ≡ true) × Rose) told out err) none ended)

@@ -1,11 +1,11 @@
-ghost use Rattle.std.specs.Prelude.{◌≡◌, ◌≤◌, ℕ, List, None, IfErr, IfOk, IsOk, OnOk, length};
+ghost use Rattle.std.specs.Prelude.{◌≡◌, ◌≤◌, ℕ, List, None, IfErr, IfOk, IsOk, OnOk, false, length, true};
 ghost use Rattle.ctm_ports.specs.Count.{Rose};
 ghost use Rattle.ctm_ports.specs.ReadEnd.{LosesAtMost};
 ghost use Rattle.command_words.specs.Words.{IsInRange};
 ghost use Rattle.call_ending.specs.Refusing.{IsRefusalOf};
-ghost use Rattle.ctm_call.specs.Answer.{IsTextBy, answer_of, why_by, why_in};
+ghost use Rattle.ctm_call.specs.Answer.{IsTextBy, why_by, why_none};
 ghost use Rattle.ctm_call.specs.Telling.{IsAnswered, IsToldBy};
-ghost use Rattle.call_beginning.specs.Input.{IsInputOf, IsReadWhole, IsUnread, Reads, most_input, most_read};
+ghost use Rattle.call_beginning.specs.Input.{IsInputOf, IsReadWhole, is_read, most_input, most_read};
 ghost use Rattle.call_beginning.specs.Task.{task_of};
 ghost use Rattle.call_beginning.specs.Words.{requested};
 
@@ -29,10 +29,10 @@ pub(crate) fn answer<R: Threads + Sync, S: Source, W: Observer>(
     observer: &W,
 ) -> Result<Vec<u8>, Refusal>
     ensures text { IfOk result (λ text. (input : List ℕ) × IsInputOf (requested words.now) (S.left source.old) input
-        × IsAnswered (W.told_held observer.now) (W.told_freed observer.now) (W.told_watched observer.now) (answer_of words.now input) text.items) }
+        × IsAnswered (W.told_held observer.now) (W.told_freed observer.now) (W.told_watched observer.now) (requested words.now) input text.items) }
     ensures refusal { IfErr result (λ refusal. (input : List ℕ) × IsInputOf (requested words.now) (S.left source.old) input
-        × IsRefusalOf (why_in (answer_of words.now input)) (Reads (requested words.now) × Rose (S.faults source.old) (S.faults source.new)) refusal) }
-    ensures unread { IsUnread (requested words.now) → source.new ≡ source.old }
+        × IsRefusalOf (why_none (requested words.now) input) ((is_read (requested words.now) ≡ true) × Rose (S.faults source.old) (S.faults source.new)) refusal) }
+    ensures unread { is_read (requested words.now) ≡ false → source.new ≡ source.old }
     ensures at_end { OnOk result (IsReadWhole (requested words.now) (S.left source.new)) }
     ensures bounded { LosesAtMost (S.left source.old) (S.left source.new) (most_read (requested words.now)) }
 {

@@ -1,11 +1,11 @@
-ghost use Rattle.std.specs.Prelude.{◌≡◌, ◌⊎◌, ℕ, List, None};
+ghost use Rattle.std.specs.Prelude.{◌≡◌, ◌⊎◌, ℕ, List, None, false, true};
 ghost use Rattle.ctm_ports.specs.Count.{Rose};
 ghost use Rattle.ctm_ports.specs.ReadEnd.{LosesAtMost};
 ghost use Rattle.call_ending.specs.Ending.{HasEnded, sink_use};
 ghost use Rattle.call_ending.specs.declared.status.Status.TheVariants as status;
-ghost use Rattle.ctm_call.specs.Answer.{answer_of, why_in};
+ghost use Rattle.ctm_call.specs.Answer.{why_none};
 ghost use Rattle.ctm_call.specs.Telling.{IsAnswered};
-ghost use Rattle.call_beginning.specs.Input.{IsInputOf, IsReadWhole, IsUnread, Reads, most_read};
+ghost use Rattle.call_beginning.specs.Input.{IsInputOf, IsReadWhole, is_read, most_read};
 ghost use Rattle.call_beginning.specs.Words.{requested};
 
 use crate::answer::answer;
@@ -27,14 +27,14 @@ pub fn ctm<R: Threads + Sync, S: Source, O: Sink, E: Sink, W: Observer>(
     err: &mut E,
     observer: &W,
 ) -> Status
-    // There is an input, which is what the source has left where it tells it, or the made network, and by the answer to the
-    // words and this input the call ended in one of five ways: it is done, the answer is a refusal, a read of the source
-    // failed where the mode reads it, a write of the text failed, or memory was refused. Where a mode that takes regions through
-    // steps has its text, the observer was told of each of its regions at each step that it takes it through.
+    // There is an input, which is what the source has left where it tells it, or the made network, and by the words and this
+    // input the status tells how the call ended: it is done, there is a reason for no text, a read of the source failed where
+    // the mode reads it, a write of the text failed, or memory was refused. Where a mode that takes regions through steps has
+    // its text, the observer was told of each of its regions at each step that it takes it through.
     ensures ended { (input : List ℕ) × IsInputOf (requested words.now) (S.left source.old) input
-        × HasEnded (IsAnswered (W.told_held observer.now) (W.told_freed observer.now) (W.told_watched observer.now) (answer_of words.now input)) (why_in (answer_of words.now input))
+        × HasEnded (IsAnswered (W.told_held observer.now) (W.told_freed observer.now) (W.told_watched observer.now) (requested words.now) input) (why_none (requested words.now) input)
         (IsReadWhole (requested words.now) (S.left source.new))
-        (Reads (requested words.now) × Rose (S.faults source.old) (S.faults source.new))
+        ((is_read (requested words.now) ≡ true) × Rose (S.faults source.old) (S.faults source.new))
         result
         (sink_use (O.taken out.old) (O.taken out.new) (out.new ≡ out.old) (Rose (O.faults out.old) (O.faults out.new)) (Rose (O.wants out.old) (O.wants out.new)))
         (sink_use (E.taken err.old) (E.taken err.new) (err.new ≡ err.old) (Rose (E.faults err.old) (E.faults err.new)) (Rose (E.wants err.old) (E.wants err.new))) }
@@ -46,7 +46,7 @@ pub fn ctm<R: Threads + Sync, S: Source, O: Sink, E: Sink, W: Observer>(
 
     // Where the words are refused or ask for a made network the source is as it was, and else it is read one byte past the
     // longest input at most.
-    ensures unread { IsUnread (requested words.now) → source.new ≡ source.old }
+    ensures unread { is_read (requested words.now) ≡ false → source.new ≡ source.old }
     ensures bounded { LosesAtMost (S.left source.old) (S.left source.new) (most_read (requested words.now)) }
 {
     let answer = answer(rt, alloc, words, source, observer);

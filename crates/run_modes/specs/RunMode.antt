@@ -1,9 +1,9 @@
 -- A run: why it has no text, and which text it has.
-use Rattle.std.specs.Prelude.{◌≡◌, ℕ, List, Option}
+use Rattle.std.specs.Prelude.{◌≡◌, ℕ, List, Option, IsOkAnd}
 use Rattle.network_file.specs.Reading.{network_of}
 use Rattle.delay_report.specs.Report.{report_of}
 use Rattle.call_ending.specs.Refusing.{Why}
-use Rattle.call_beginning.specs.NetworkInput.{IsNetworkWith, why_of_network}
+use Rattle.call_beginning.specs.NetworkInput.{why_of_network}
 use Rattle.call_beginning.specs.Recording.{why_unrecorded}
 use Rattle.call_beginning.specs.Task.{Task}
 
@@ -12,4 +12,4 @@ run_refused task = why_of_network (network_of task.input) (λ net. why_unrecorde
 
 -- the report of the plain recurrences
 abbrev pub IsRunText : Task → List ℕ → Type 0
-IsRunText task text = IsNetworkWith (network_of task.input) (λ net. text ≡ report_of net task.request.every)
+IsRunText task text = IsOkAnd (network_of task.input) (λ net. text ≡ report_of net task.request.every)

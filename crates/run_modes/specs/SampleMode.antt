@@ -1,12 +1,12 @@
 -- A made network that is run: why it has no text, and which text it has.
-use Rattle.std.specs.Prelude.{◌≡◌, ℕ, List, Option, None, ◌++◌, length, codes}
+use Rattle.std.specs.Prelude.{◌≡◌, ℕ, List, Option, None, ◌++◌, length, codes, IsOkAnd}
 use Rattle.network_file.specs.Network.{Network}
 use Rattle.network_file.specs.Reading.{network_of}
 use Rattle.flow_model.specs.State.{state_at}
 use Rattle.line_fields.specs.Fields.{count_field}
 use Rattle.delay_report.specs.Report.{total_line}
 use Rattle.call_ending.specs.Refusing.{Why}
-use Rattle.call_beginning.specs.NetworkInput.{IsNetworkWith, why_of_network}
+use Rattle.call_beginning.specs.NetworkInput.{why_of_network}
 use Rattle.call_beginning.specs.Task.{Task}
 
 abbrev pub sample_refused : Task → Option Why
@@ -23,4 +23,4 @@ unfoldable pub sample_of : (size seed : ℕ) → Network → List ℕ
 sample_of size seed net = sample_line size seed net ++ total_line net (state_at net net.steps)
 
 abbrev pub IsSampleText : Task → List ℕ → Type 0
-IsSampleText task text = IsNetworkWith (network_of task.input) (λ net. text ≡ sample_of task.request.size task.request.seed net)
+IsSampleText task text = IsOkAnd (network_of task.input) (λ net. text ≡ sample_of task.request.size task.request.seed net)

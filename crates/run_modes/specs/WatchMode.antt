@@ -1,5 +1,6 @@
 -- A run that is watched: why it has no text, and which texts it may have.
-use Rattle.std.specs.Prelude.{◌≡◌, ℕ, ◌*◌, ◌++◌, List, Option, Some, None, length, nat_lt, if◌then◌else◌, codes}
+use Rattle.std.specs.Prelude.{◌≡◌, ℕ, ◌*◌, ◌++◌, List, Option, Some, None, length, nat_lt, if◌then◌else◌, codes, IsOkAnd}
+use Rattle.std.specs.Option.{option_or}
 use Rattle.command_words.specs.declared.request.Request.{Request}
 use Rattle.network_file.specs.Network.{Network}
 use Rattle.network_file.specs.Reading.{network_of}
@@ -7,29 +8,18 @@ use Rattle.shot_lines.specs.Shots.{AreShots}
 use Rattle.delay_report.specs.Report.{report_of}
 use Rattle.call_ending.specs.Refusing.{Why}
 use Rattle.call_ending.specs.declared.status.Status.TheVariants as status
-use Rattle.call_beginning.specs.NetworkInput.{IsNetworkWith, why_of_network}
+use Rattle.call_beginning.specs.NetworkInput.{why_of_network}
 use Rattle.call_beginning.specs.Recording.{why_unrecorded}
 use Rattle.call_beginning.specs.Task.{Task}
 use Rattle.call_beginning.specs.UsedCutting.{IsCuttingOf}
 
--- how many rows the shots show: cells times shots
-abbrev pub shown_rows : Network → (shots : ℕ) → ℕ
-shown_rows net shots = length net.cells * shots
-
-abbrev pub large_shots : Why
-large_shots = record { status = status.TooLarge; line = codes "ctm: too large: shots\n" }
-
--- more than 4,000,000 are too many
+-- more than 4,000,000 rows, cells times shots, are too many
 abbrev pub why_unshown : Network → (shots : ℕ) → Option Why
-why_unshown net shots = if nat_lt 4_000_000 (shown_rows net shots) then Some large_shots else None
-
--- the first of two reasons
-abbrev pub first_why : Option Why → Option Why → Option Why
-first_why (Some why) later = Some why
-first_why None later = later
+why_unshown net shots =
+    if nat_lt 4_000_000 (length net.cells * shots) then Some (record { status = status.TooLarge; line = codes "ctm: too large: shots\n" }) else None
 
 abbrev pub watch_refused : Task → Option Why
-watch_refused task = why_of_network (network_of task.input) (λ net. first_why (why_unrecorded net task.request.every) (why_unshown net task.request.shots))
+watch_refused task = why_of_network (network_of task.input) (λ net. option_or (why_unrecorded net task.request.every) (why_unshown net task.request.shots))
 
 -- the text of a run that is watched, in a cutting for the request: its shots, of which each shows the regions at lawful steps
 -- between two goals, the rows of the plain recurrences at each region's own step, books that balance and roads that keep their
@@ -42,4 +32,4 @@ pub record HasShotsAndReport (net : Network) (request : Request) (whole : List �
   pub text : whole ≡ shots ++ report_of net request.every
 
 abbrev pub IsWatchText : Task → List ℕ → Type 0
-IsWatchText task text = IsNetworkWith (network_of task.input) (λ net. HasShotsAndReport net task.request text)
+IsWatchText task text = IsOkAnd (network_of task.input) (λ net. HasShotsAndReport net task.request text)

@@ -1,11 +1,10 @@
-ghost use Rattle.std.specs.Prelude.{◌≡◌, ◌≤◌, ◌++◌, IfErr, IfOk, IsOk, None, OnOk, length};
+ghost use Rattle.std.specs.Prelude.{◌≡◌, ◌≤◌, ◌++◌, IfErr, IfOk, IsOk, None, OnOk, length, IsOkAnd};
 ghost use Rattle.command_words.specs.Words.{IsInRange};
 ghost use Rattle.network_file.specs.declared.limits.TheConstants.{MOST_BYTES};
 ghost use Rattle.call_ending.specs.Refusing.{IsRefusalOf};
 ghost use Rattle.run_modes.specs.SampleMode.{IsSampleText, sample_line, sample_of, sample_refused};
 ghost use Rattle.call_beginning.specs.Task.{task_of};
 ghost use Rattle.network_file.specs.Reading.{network_of};
-ghost use Rattle.call_beginning.specs.NetworkInput.{IsNetworkWith};
 ghost use Rattle.run_modes.specs.Told.{HasToldSample};
 
 use call_beginning::{network_in, regions_wanted};
@@ -32,7 +31,7 @@ pub fn sample_text<R: Threads + Sync, W: Observer>(
     requires in_range { IsInRange request }
     requires few_bytes { length input.now ≤ MOST_BYTES }
     ensures text { IfOk result (λ text. (sample_refused (task_of request input.now) ≡ None) × IsSampleText (task_of request input.now) text.items) }
-    ensures told { IsOk result → IsNetworkWith (network_of input.now) (λ net. HasToldSample (W.told_held observer.now) (W.told_freed observer.now) net request) }
+    ensures told { IsOk result → IsOkAnd (network_of input.now) (λ net. HasToldSample (W.told_held observer.now) (W.told_freed observer.now) net request) }
     ensures refusal { IfErr result (IsRefusalOf (sample_refused (task_of request input.now)) ⊥) }
 {
     match network_in(alloc, input) {

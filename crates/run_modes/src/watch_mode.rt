@@ -1,11 +1,11 @@
-ghost use Rattle.std.specs.Prelude.{◌≡◌, ◌≤◌, IfErr, IfOk, IsOk, None, Some, length, nat_lt};
+ghost use Rattle.std.specs.Prelude.{◌≡◌, ◌≤◌, ◌*◌, IfErr, IfOk, IsOk, None, Some, codes, length, nat_lt, IsOkAnd};
 ghost use Rattle.command_words.specs.Words.{IsInRange};
 ghost use Rattle.network_file.specs.declared.limits.TheConstants.{MOST_BYTES};
 ghost use Rattle.call_ending.specs.Refusing.{IsRefusalOf};
+ghost use Rattle.call_ending.specs.declared.status.Status.TheVariants as status;
 ghost use Rattle.call_beginning.specs.Task.{task_of};
-ghost use Rattle.run_modes.specs.WatchMode.{HasShotsAndReport, IsWatchText, large_shots, shown_rows, watch_refused};
+ghost use Rattle.run_modes.specs.WatchMode.{HasShotsAndReport, IsWatchText, watch_refused};
 ghost use Rattle.network_file.specs.Reading.{network_of};
-ghost use Rattle.call_beginning.specs.NetworkInput.{IsNetworkWith};
 ghost use Rattle.run_modes.specs.Told.{HasToldWatch};
 
 use call_beginning::{large_record, layout_asked, network_in, records_too_much};
@@ -34,7 +34,7 @@ pub fn watch_text<R: Threads + Sync, W: Observer>(
     requires in_range { IsInRange request }
     requires few_bytes { length input.now ≤ MOST_BYTES }
     ensures text { IfOk result (λ text. (watch_refused (task_of request input.now) ≡ None) × IsWatchText (task_of request input.now) text.items) }
-    ensures told { IsOk result → IsNetworkWith (network_of input.now) (λ net. HasToldWatch (W.told_held observer.now) (W.told_freed observer.now) (W.told_watched observer.now) net request) }
+    ensures told { IsOk result → IsOkAnd (network_of input.now) (λ net. HasToldWatch (W.told_held observer.now) (W.told_freed observer.now) (W.told_watched observer.now) net request) }
     ensures refusal { IfErr result (IsRefusalOf (watch_refused (task_of request input.now)) ⊥) }
 {
     let net = match network_in(alloc, input) {
@@ -52,14 +52,14 @@ pub fn watch_text<R: Threads + Sync, W: Observer>(
 
 // Whether so many shots would show more rows than they may.
 fn shows_too_much(net: &Net, shots: u32) -> bool
-    ensures { result ≡ nat_lt 4_000_000 (shown_rows net.now shots) }
+    ensures { result ≡ nat_lt 4_000_000 (length net.now.cells * shots) }
 {
     net.cells.len() as u64 * u64::from(shots) > MOST_SHOWN
 }
 
 // The refusal of a run whose shots would.
 fn large_shots() -> Refusal
-    ensures { IsRefusalOf (Some large_shots) ⊥ result }
+    ensures { IsRefusalOf (Some (record { status = status.TooLarge; line = codes "ctm: too large: shots\n" })) ⊥ result }
 {
     Refusal::Told(Cause::TooLarge, Line::Fixed(b"ctm: too large: shots\n"))
 }

@@ -1,10 +1,11 @@
 -- A saved text that begins true is gone on with to the report of the plain recurrences, and to no other text.
+use Rattle.std.specs.Prelude.{IsSomeAnd}
 use Rattle.std.proofs.Common.{◌≡◌, ℕ, ◌≤◌, List, Option, Some, None, length, sym, ap, ◌∙◌, arith}
 use Rattle.network_file.specs.Network.{IsNetwork, Network}
 use Rattle.region_cut.specs.LawfulSteps.{AreLawful}
 use Rattle.region_step.specs.Start.{IsTrueStart, StartLists}
 use Rattle.saved_run.specs.Content.{Content}
-use Rattle.saved_run.specs.Laws.{BeginsTrue}
+use Rattle.saved_run.specs.Laws.{HasTrueStart}
 use Rattle.saved_run.specs.Loading.{cutting_in, start_in}
 use Rattle.saved_run.specs.Reading.{content_of}
 use Rattle.saved_run.specs.SavedLength.{most_saved}
@@ -14,7 +15,7 @@ use Rattle.delay_report.specs.Report.{report_of, report_with, state_note}
 use Rattle.delay_report.proofs.FromStart.{last_rows-true, report_with-none}
 use Rattle.call_beginning.specs.NetworkInput.{why_of_network}
 use Rattle.saved_modes.specs.ResumedAs.{IsResumedAs}
-use Rattle.saved_modes.specs.ResumeMode.{IsGoneOnFrom, why_by_content, why_by_cutting}
+use Rattle.saved_modes.specs.ResumeMode.{IsGoneOn, why_by_content, why_by_cutting}
 use Rattle.saved_modes.proofs.Resumed.{resumed-report}
 use Rattle.saved_modes.proofs.Resuming.{can-start}
 
@@ -26,14 +27,14 @@ report_from-true net cut start sound lawful true_start =
     sym (report_with-none net cut start (state_note net)) ∙ ap (report_with net 0 (state_note net)) (last_rows-true net cut start sound lawful true_start)
 
 -- nothing stands against a text that begins true
-why-begun : (found : Option Content) (net : Network) (cut : List ℕ) → BeginsTrue found net cut → why_by_content found ≡ None
+why-begun : (found : Option Content) (net : Network) (cut : List ℕ) → IsSomeAnd found (λ content. HasTrueStart content net cut) → why_by_content found ≡ None
 why-begun None net cut begins = absurd begins
 why-begun (Some content) net cut begins =
     ap (λ read. why_of_network read (λ net. why_by_cutting content net (cutting_in net content))) begins.cut_so.network ∙ ap (why_by_cutting content net) begins.cut_so.cutting ∙
     can-start (decide_start net cut (start_in content)) begins.can_start
 
 -- and the report answers
-report-gone_on : (found : Option Content) (net : Network) (cut text : List ℕ) → IsNetwork net → BeginsTrue found net cut → text ≡ report_of net 0 → IsGoneOnFrom found text
+report-gone_on : (found : Option Content) (net : Network) (cut text : List ℕ) → IsNetwork net → IsSomeAnd found (λ content. HasTrueStart content net cut) → text ≡ report_of net 0 → IsSomeAnd found (λ content. IsGoneOn content text)
 report-gone_on None net cut text sound begins is = absurd begins
 report-gone_on (Some content) net cut text sound begins is = record {
   net = net;
@@ -43,7 +44,7 @@ report-gone_on (Some content) net cut text sound begins is = record {
   plain = λ true_start. is;
 }
 
-pub begins-resumed_as : (net : Network) (cut saved : List ℕ) → IsNetwork net → BeginsTrue (content_of saved) net cut → length saved ≤ most_saved → IsResumedAs (report_of net 0) saved
+pub begins-resumed_as : (net : Network) (cut saved : List ℕ) → IsNetwork net → IsSomeAnd (content_of saved) (λ content. HasTrueStart content net cut) → length saved ≤ most_saved → IsResumedAs (report_of net 0) saved
 begins-resumed_as net cut saved sound begins short = record {
   whole = omega (arith, short);
   taken = λ request. why-begun (content_of saved) net cut begins;

@@ -1,5 +1,5 @@
 -- A saved run that is gone on from: why it has no text, and which text it has.
-use Rattle.std.specs.Prelude.{◌≡◌, ℕ, List, Option, Some, None, codes}
+use Rattle.std.specs.Prelude.{◌≡◌, ℕ, List, IsSomeAnd, Option, Some, None, codes}
 use Rattle.network_file.specs.Network.{Network}
 use Rattle.network_file.specs.Reading.{network_of}
 use Rattle.region_step.specs.Start.{IsTrueStart}
@@ -54,9 +54,5 @@ pub record IsGoneOn (content : Content) (whole : List ℕ) : Type 0 where
   -- from a true start it is the report of the plain recurrences
   pub plain : IsTrueStart net cut (start_in content) → whole ≡ report_of net 0
 
-abbrev pub IsGoneOnFrom : Option Content → List ℕ → Type 0
-IsGoneOnFrom None whole = ⊥
-IsGoneOnFrom (Some content) whole = IsGoneOn content whole
-
 abbrev pub IsResumeText : Task → List ℕ → Type 0
-IsResumeText task text = IsGoneOnFrom (content_of task.input) text
+IsResumeText task text = IsSomeAnd (content_of task.input) (λ content. IsGoneOn content text)

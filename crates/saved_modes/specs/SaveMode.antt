@@ -1,5 +1,5 @@
 -- A run that is saved near a step: why it has no text, and which texts it may have.
-use Rattle.std.specs.Prelude.{◌≡◌, ℕ, zero, suc, List, Option, None, length, map, min, slice_index}
+use Rattle.std.specs.Prelude.{◌≡◌, ℕ, zero, suc, List, Option, None, length, map, min, slice_index, IsOkAnd, IsSomeAnd}
 use Rattle.std.specs.List.{range_with_len}
 use Rattle.command_words.specs.declared.request.Request.{Request}
 use Rattle.network_file.specs.Network.{Network}
@@ -8,14 +8,14 @@ use Rattle.flow_model.specs.State.{occupancy, row_at, state_at}
 use Rattle.region_cut.specs.Cuttings.{region_at}
 use Rattle.snapshot.specs.Shots.{AreStepsBetween}
 use Rattle.saved_run.specs.Content.{Content}
-use Rattle.saved_run.specs.Laws.{BeginsTrue}
+use Rattle.saved_run.specs.Laws.{HasTrueStart}
 use Rattle.saved_run.specs.Reading.{content_of}
 use Rattle.saved_run.specs.SavedText.{saved_text}
 use Rattle.saved_run.specs.declared.row_line.RowLine.{RowLine}
 use Rattle.network_run.specs.Near.{near_end}
 use Rattle.delay_report.specs.Report.{report_of}
 use Rattle.call_ending.specs.Refusing.{Why}
-use Rattle.call_beginning.specs.NetworkInput.{IsNetworkWith, why_of_network}
+use Rattle.call_beginning.specs.NetworkInput.{why_of_network}
 use Rattle.call_beginning.specs.Task.{Task}
 use Rattle.call_beginning.specs.UsedCutting.{IsCuttingOf}
 use Rattle.saved_modes.specs.ResumedAs.{IsResumedAs}
@@ -41,22 +41,18 @@ run_at net cut steps input = record {
   network = input;
 }
 
--- a run that is saved near a step, or near the last one where that comes first: neighbouring regions stand at most one step
--- apart, and none stands before that step or more than four steps past it
-pub record IsSavedNear (net : Network) (cut : List ℕ) (until : ℕ) (input : List ℕ) (text : List ℕ) : Type 0 where
-  pub steps : List ℕ
-  pub stand : AreStepsBetween net cut (min until net.steps) (near_end net until) steps
-  pub saved : text ≡ saved_text (run_at net cut steps input)
-  -- it is read again as a run of this network, cut so, that goes on from there as from the beginning
-  pub begins : BeginsTrue (content_of text) net cut
-
--- a run that is saved so, in a cutting for the request
+-- a run, in a cutting for the request, that is saved near a step, or near the last one where that comes first: neighbouring
+-- regions stand at most one step apart, and none stands before that step or more than four steps past it
 pub record IsSavedRun (net : Network) (request : Request) (input : List ℕ) (text : List ℕ) : Type 0 where
   pub cut : List ℕ
   pub cutting : IsCuttingOf net request cut
-  pub near : IsSavedNear net cut request.until input text
+  pub steps : List ℕ
+  pub stand : AreStepsBetween net cut (min request.until net.steps) (near_end net request.until) steps
+  pub saved : text ≡ saved_text (run_at net cut steps input)
+  -- it is read again as a run of this network, cut so, that goes on from there as from the beginning
+  pub begins : IsSomeAnd (content_of text) (λ content. HasTrueStart content net cut)
   -- `resume` ends it with the report of the plain recurrences, which `run` writes where nothing is recorded
   pub resumed : IsResumedAs (report_of net 0) text
 
 abbrev pub IsSaveText : Task → List ℕ → Type 0
-IsSaveText task text = IsNetworkWith (network_of task.input) (λ net. IsSavedRun net task.request task.input text)
+IsSaveText task text = IsOkAnd (network_of task.input) (λ net. IsSavedRun net task.request task.input text)

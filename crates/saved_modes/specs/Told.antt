@@ -1,5 +1,5 @@
 -- What the observer of a run that is saved, of one that goes on from a saved text, or of one in parts was told.
-use Rattle.std.specs.Prelude.{◌≡◌, ℕ, ◌+◌, ◌<◌, List, Option, Some, None, length, min, replicate}
+use Rattle.std.specs.Prelude.{◌≡◌, ℕ, ◌+◌, ◌<◌, List, length, min, replicate}
 use Rattle.command_words.specs.declared.request.Request.{Request}
 use Rattle.network_file.specs.Network.{Network}
 use Rattle.region_cut.specs.Chart.{list_at}
@@ -25,10 +25,6 @@ pub record HasToldGoneOn (held freed : Telling) (content : Content) : Type 0 whe
   pub cut : List ℕ
   pub cut_so : IsCutSo content net cut
   pub told : HasTold held freed (record { net = net; cut = cut; start = start_in content; every = 0 }) net.steps
-
-abbrev pub HasToldResume : (held freed : Telling) → Option Content → Type 0
-HasToldResume held freed None = ⊥
-HasToldResume held freed (Some content) = HasToldGoneOn held freed content
 
 -- each step of a part: of the network in its cutting, from a step at which its cells held what the plain recurrences have,
 -- to its goal

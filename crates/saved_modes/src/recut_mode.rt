@@ -1,4 +1,4 @@
-ghost use Rattle.std.specs.Prelude.{◌≡◌, ◌≤◌, IfErr, IfOk, IsOk, None, length};
+ghost use Rattle.std.specs.Prelude.{◌≡◌, ◌≤◌, IfErr, IfOk, IsOk, None, length, IsOkAnd};
 ghost use Rattle.command_words.specs.Words.{IsInRange};
 ghost use Rattle.network_file.specs.Reading.{network_of};
 ghost use Rattle.network_file.specs.declared.limits.TheConstants.{MOST_BYTES, MOST_REGIONS};
@@ -7,7 +7,6 @@ ghost use Rattle.call_ending.specs.Refusing.{IsRefusalOf};
 ghost use Rattle.saved_modes.specs.RecutMode.{IsRecutText, recut_refused};
 ghost use Rattle.saved_modes.specs.Recutting.{part_cutting, part_cuttings};
 ghost use Rattle.saved_modes.specs.Told.{HasToldRecut};
-ghost use Rattle.call_beginning.specs.NetworkInput.{IsNetworkWith};
 ghost use Rattle.call_beginning.specs.Task.{task_of};
 
 use crate::recutting::recut_report;
@@ -32,7 +31,7 @@ pub fn recut_text<R: Threads + Sync, W: Observer>(
     requires in_range { IsInRange request }
     requires few_bytes { length input.now ≤ MOST_BYTES }
     ensures text { IfOk result (λ text. (recut_refused (task_of request input.now) ≡ None) × IsRecutText (task_of request input.now) text.items) }
-    ensures told { IsOk result → IsNetworkWith (network_of input.now) (λ net. HasToldRecut (W.told_held observer.now) (W.told_freed observer.now) net request) }
+    ensures told { IsOk result → IsOkAnd (network_of input.now) (λ net. HasToldRecut (W.told_held observer.now) (W.told_freed observer.now) net request) }
     ensures refusal { IfErr result (IsRefusalOf (recut_refused (task_of request input.now)) ⊥) }
 {
     let net = match network_in(alloc, input) {

@@ -1,4 +1,4 @@
-ghost use Rattle.std.specs.Prelude.{◌≡◌, ◌≤◌, IfErr, IfOk, IsOk, None, Some};
+ghost use Rattle.std.specs.Prelude.{◌≡◌, ◌≤◌, IfErr, IfOk, IsOk, IsSomeAnd, None, Some};
 ghost use Rattle.command_words.specs.Words.{IsInRange};
 ghost use Rattle.region_step.specs.Start.{IsTrueStart};
 ghost use Rattle.saved_run.specs.Loading.{CanStart};
@@ -8,20 +8,19 @@ ghost use Rattle.delay_report.specs.Report.{report_of};
 ghost use Rattle.call_ending.specs.Refusing.{IsRefusalOf};
 ghost use Rattle.saved_modes.specs.ResumeMode.{IsResumeText, resume_refused, saved_refused, why_of_fault};
 ghost use Rattle.network_run.specs.Telling.{HasTold};
-ghost use Rattle.saved_modes.specs.Told.{HasToldResume};
+ghost use Rattle.saved_modes.specs.Told.{HasToldGoneOn};
 ghost use Rattle.call_beginning.specs.Task.{task_of};
 
 use call_beginning::refused;
 use call_ending::{Cause, Line, Refusal};
 use command_words::Request;
 use delay_report::report;
-use network_file::NetRefusal;
 use network_run::regions_from;
-use no_memory::NoMemory;
+use no_memory::{NoMemory, Refused};
 use region_cut::Layout;
 use region_slots::Observer;
 use region_step::{Setup, Start};
-use saved_run::{LoadFault, LoadRefusal, Saved, load};
+use saved_run::{LoadFault, Saved, load};
 use std::alloc::Global;
 use std::thread::Threads;
 
@@ -35,13 +34,13 @@ pub fn resume_text<R: Threads + Sync, W: Observer>(
 ) -> Result<Vec<u8>, Refusal>
     requires in_range { IsInRange request }
     ensures text { IfOk result (λ text. (resume_refused (task_of request input.now) ≡ None) × IsResumeText (task_of request input.now) text.items) }
-    ensures told { IsOk result → HasToldResume (W.told_held observer.now) (W.told_freed observer.now) (content_of input.now) }
+    ensures told { IsOk result → IsSomeAnd (content_of input.now) (HasToldGoneOn (W.told_held observer.now) (W.told_freed observer.now)) }
     ensures refusal { IfErr result (IsRefusalOf (resume_refused (task_of request input.now)) ⊥) }
 {
     let saved = match load(alloc, input) {
         Ok(saved) => saved,
-        Err(LoadRefusal::Fault(fault)) => return Err(unsaved(alloc, fault)),
-        Err(LoadRefusal::NoMemory) => return Err(Refusal::NoMemory),
+        Err(Refused::Fault(fault)) => return Err(unsaved(alloc, fault)),
+        Err(Refused::NoMemory) => return Err(Refusal::NoMemory),
     };
     let Saved { net, chart, start } = saved;
     let layout = Layout::of(&net, chart);
@@ -78,7 +77,7 @@ fn unsaved(alloc: Global, fault: LoadFault) -> Refusal
 {
     match fault {
         LoadFault::Spelling => told(b"ctm: saved: code 1 Spelling\n"),
-        LoadFault::Network(fault) => refused(alloc, NetRefusal::Fault(fault)),
+        LoadFault::Network(fault) => refused(alloc, Refused::Fault(fault)),
         LoadFault::Cutting => told(b"ctm: saved: code 3 Cutting\n"),
         LoadFault::Start => told(b"ctm: saved: code 4 Start\n"),
     }

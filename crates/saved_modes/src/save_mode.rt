@@ -1,11 +1,10 @@
-ghost use Rattle.std.specs.Prelude.{◌≡◌, ◌≤◌, IfErr, IfOk, IsOk, None, Ok, length};
+ghost use Rattle.std.specs.Prelude.{◌≡◌, ◌≤◌, IfErr, IfOk, IsOk, None, Ok, length, IsOkAnd};
 ghost use Rattle.command_words.specs.Words.{IsInRange};
 ghost use Rattle.network_file.specs.Reading.{network_of};
 ghost use Rattle.network_file.specs.declared.limits.TheConstants.{MOST_BYTES};
 ghost use Rattle.call_ending.specs.Refusing.{IsRefusalOf};
 ghost use Rattle.saved_modes.specs.SaveMode.{IsSaveText, IsSavedRun, save_refused};
 ghost use Rattle.saved_modes.specs.Told.{HasToldSave};
-ghost use Rattle.call_beginning.specs.NetworkInput.{IsNetworkWith};
 ghost use Rattle.call_beginning.specs.Task.{task_of};
 
 use call_beginning::{layout_asked, network_in};
@@ -31,7 +30,7 @@ pub fn save_text<R: Threads + Sync, W: Observer>(
     requires in_range { IsInRange request }
     requires few_bytes { length input.now ≤ MOST_BYTES }
     ensures text { IfOk result (λ text. (save_refused (task_of request input.now) ≡ None) × IsSaveText (task_of request input.now) text.items) }
-    ensures told { IsOk result → IsNetworkWith (network_of input.now) (λ net. HasToldSave (W.told_held observer.now) (W.told_freed observer.now) net request) }
+    ensures told { IsOk result → IsOkAnd (network_of input.now) (λ net. HasToldSave (W.told_held observer.now) (W.told_freed observer.now) net request) }
     ensures refusal { IfErr result (IsRefusalOf (save_refused (task_of request input.now)) ⊥) }
 {
     match network_in(alloc, input) {

@@ -1,5 +1,5 @@
 -- A call by the answer that it found and by what came of writing it.
-use Rattle.std.proofs.Common.{◌≡◌, ◌≢◌, ℕ, Bool, true, false, inl, inr, List, Option, Some, None, Result, Ok, Err, IfOk, IfErr, OnOk, String, Global, IfSome, refl, sym, subst, ap, ◌∙◌, if◌then◌else◌, length, nat_lt, arith}
+use Rattle.std.proofs.Common.{◌≡◌, ◌≢◌, ℕ, Bool, true, false, List, Option, Some, None, Result, Ok, Err, IfOk, IfErr, OnOk, String, Global, IfSome, refl, subst, ap, ◌∙◌, if◌then◌else◌, length, nat_lt, arith}
 use Rattle.network_file.specs.Network.{Network}
 use Rattle.network_file.specs.Reading.{network_of}
 use Rattle.network_file.specs.declared.fault.NetFault.{NetFault}
@@ -53,16 +53,6 @@ other-by (Some workers) input why answered is =
 
 pub words-told : (held freed : Telling) (asked : Option ℕ) (input : List ℕ) (IsRead ReadFailed : Type 0) (told : Status) (out err : SinkUse) →
     HasEnded (IsAnswered held freed (answer_by asked input)) (why_in (answer_by asked input)) IsRead ReadFailed told out err → told ≡ status.Words → asked ≡ None
-words-told held freed asked input IsRead ReadFailed told out err ended is = elim ended [
-  | inl done ↦ absurd (other status.Done (λ e. omega (arith, e)) (sym done.ends ∙ is))
-  | inr more ↦ elim more [
-    | inl refused ↦ other-by asked input refused.why refused.answer (sym refused.ends ∙ is)
-    | inr more ↦ elim more [
-      | inl fault ↦ absurd (other status.ReadFault (λ e. omega (arith, e)) (sym fault.ends ∙ is))
-      | inr more ↦ elim more [
-        | inl fault ↦ absurd (other status.WriteFault (λ e. omega (arith, e)) (sym fault.ends ∙ is))
-        | inr memory ↦ absurd (other status.NoMemory (λ e. omega (arith, e)) (sym memory.ends ∙ is))
-      ]
-    ]
-  ]
-]
+words-told held freed asked input IsRead ReadFailed told out err ended is =
+    let by_words = subst (λ told. HasEnded (IsAnswered held freed (answer_by asked input)) (why_in (answer_by asked input)) IsRead ReadFailed told out err) is ended in
+    other-by asked input (record { status = status.Words; line = by_words.0 }) by_words.1 refl

@@ -1,16 +1,15 @@
 -- The candidates of an input, read one after the other.
-use Rattle.std.specs.Prelude.{Ok, Err, IfErr, IfOk, None, Some, ◌&&◌, drop, map, nat_le, nat_lt, slice_index_or, take}
+use Rattle.std.specs.Prelude.{Ok, Err, IfErr, IfOk, None, Some, drop, map, slice_index_or, take}
 use Rattle.std.proofs.Common.{◌≡◌, ◌⊎◌, ℕ, suc, ◌+◌, ◌<◌, ◌≤◌, inl, inr, List, [], ◌∷◌, ◌++◌, Option, Result, length, ap, arith, refl, subst, sym, ◌∙◌}
-use Rattle.std.proofs.lemmas.Bool.{le-leb, le-ltb, lt-leb, lt-ltb}
+use Rattle.std.proofs.lemmas.Bool.{le-leb, lt-leb}
 use Rattle.std.proofs.lemmas.List.{drop_all, drop_more, map_push, take_all, take_more}
 use Rattle.network_file.specs.Network.{Network}
 use Rattle.network_file.specs.Reading.{network_of}
-use Rattle.network_file.specs.Faults.{IsRefusal}
+use Rattle.no_memory.specs.Answers.{IsRefusal}
+use Rattle.no_memory.specs.declared.refused.Refused.{Refused}
+use Rattle.no_memory.specs.declared.refused.Refused.TheVariants.{Fault, NoMemory}
 use Rattle.network_file.specs.declared.fault.NetFault.{NetFault}
-use Rattle.network_file.specs.declared.fault.NetRefusal.{NetRefusal}
-use Rattle.network_file.specs.declared.fault.NetRefusal.TheVariants as of_net
-use Rattle.plan_choice.specs.Pieces.{candidates_in, files_of, most_plans, pieces_in, separators_in}
-use Rattle.plan_choice.proofs.Cutting.{length-candidates}
+use Rattle.plan_choice.specs.Pieces.{candidates_in}
 use Rattle.plan_choice.proofs.Sizes.{file-few}
 use Rattle.call_ending.specs.Refusing.{IsRefusalOf, Why}
 use Rattle.call_ending.specs.declared.refusal.Refusal.{Refusal}
@@ -51,14 +50,14 @@ all-networks files p nets past are = ap (map network_of) (sym (take_all p files 
 pub all-accepted : (files : List (List ℕ)) (p : ℕ) (nets : List Network) → length files ≤ p → AreRead files p nets → why_of_candidates 0 files ≡ None
 all-accepted files p nets past are = are.left ∙ ap (why_of_candidates p) (drop_all p files past)
 
--- an input by the number of its separators
-pub refused-candidates : (input : List ℕ) → 1 ≤ separators_in input → separators_in input ≤ most_plans → choose_refused input ≡ why_of_candidates 0 (candidates_in input)
-refused-candidates input some few = rw (lt-ltb 0 (separators_in input) (omega (arith, some)), le-leb (separators_in input) most_plans few) refl
+-- an input by the number of its plans
+pub refused-candidates : (input : List ℕ) → 1 ≤ length (candidates_in input) → length (candidates_in input) ≤ 16 → choose_refused input ≡ why_of_candidates 0 (candidates_in input)
+refused-candidates input some few = rw (le-leb 1 (length (candidates_in input)) some, le-leb (length (candidates_in input)) 16 few) refl
 
-pub refused-plans : (input : List ℕ) → (separators_in input ≡ 0) ⊎ (most_plans < separators_in input) → choose_refused input ≡ Some (plans_refused (separators_in input))
+pub refused-plans : (input : List ℕ) → (length (candidates_in input) ≡ 0) ⊎ (16 < length (candidates_in input)) → choose_refused input ≡ Some (plans_refused (length (candidates_in input)))
 refused-plans input miscounted = elim miscounted [
-  | inl none ↦ rw (le-ltb 0 (separators_in input) (omega (arith, none))) refl
-  | inr many ↦ rw (lt-ltb 0 (separators_in input) (omega (arith, many)), lt-leb (separators_in input) most_plans many) refl
+  | inl none ↦ rw (lt-leb 1 (length (candidates_in input)) (omega (arith, none))) refl
+  | inr many ↦ rw (le-leb 1 (length (candidates_in input)) (omega (arith, many)), lt-leb (length (candidates_in input)) 16 many) refl
 ]
 
 -- as many networks as candidates
@@ -69,36 +68,35 @@ length-read (file ∷ files) [] are = absurd cc
 length-read (file ∷ files) (net ∷ nets) are = ap suc (length-read files nets cc)
 
 -- the refusal of a candidate tells its fault
-pub told-candidate : (p : ℕ) (read : Result Network NetFault) (refusal : NetRefusal) (told : Refusal) (later : Option Why) → IsRefusal refusal read → IsToldOf (candidate_refused p) refusal told →
+pub told-candidate : (p : ℕ) (read : Result Network NetFault) (refusal : Refused NetFault) (told : Refusal) (later : Option Why) → IsRefusal refusal read → IsToldOf (candidate_refused p) refusal told →
     IsRefusalOf (why_of_candidate p read later) ⊥ told
-told-candidate p read (of_net.Fault fault) told later is is_told = rw is is_told
-told-candidate p read of_net.NoMemory told later is is_told = rw is_told tt
+told-candidate p read (Fault fault) told later is is_told = rw is is_told
+told-candidate p read NoMemory told later is is_told = rw is_told tt
 
-module _ (input : List ℕ) (pieces : List (List ℕ)) (same : pieces ≡ pieces_in input) where
+module _ (input : List ℕ) (files : List (List ℕ)) (same : files ≡ candidates_in input) where
   -- of an input that was cut so no candidate is longer than the input
-  pub pieces-few : (p : ℕ) → length (slice_index_or (files_of pieces) p []) ≤ length input
-  pieces-few p = subst (λ ps. length (slice_index_or (files_of ps) p []) ≤ length input) (sym same) (file-few input p)
+  pub files-few : (p : ℕ) → length (slice_index_or files p []) ≤ length input
+  files-few p = subst (λ files. length (slice_index_or files p []) ≤ length input) (sym same) (file-few input p)
 
   -- and what stands against it is what stands against its candidates
-  why-cut : 1 ≤ length (files_of pieces) → length (files_of pieces) ≤ most_plans → choose_refused input ≡ why_of_candidates 0 (files_of pieces)
+  why-cut : 1 ≤ length files → length files ≤ 16 → choose_refused input ≡ why_of_candidates 0 files
   why-cut some few =
-      let count = ap (λ ps. length (files_of ps)) same ∙ length-candidates input in
-      refused-candidates input (omega (arith, some, count)) (omega (arith, few, count)) ∙ ap (λ ps. why_of_candidates 0 (files_of ps)) (sym same)
+      refused-candidates input (subst (λ files. 1 ≤ length files) same some) (subst (λ files. length files ≤ 16) same few) ∙ ap (why_of_candidates 0) (sym same)
 
-  pub cut-text : {A : Type 0} (items : A → List ℕ) (result : Result A Refusal) → 1 ≤ length (files_of pieces) → length (files_of pieces) ≤ most_plans →
-      IfOk result (λ text. (why_of_candidates 0 (files_of pieces) ≡ None) × IsChosenOf (files_of pieces) (items text)) →
+  pub cut-text : {A : Type 0} (items : A → List ℕ) (result : Result A Refusal) → 1 ≤ length files → length files ≤ 16 →
+      IfOk result (λ text. (why_of_candidates 0 files ≡ None) × IsChosenOf files (items text)) →
       IfOk result (λ text. (choose_refused input ≡ None) × IsChooseText input (items text))
-  cut-text items (Ok text) some few given = (why-cut some few ∙ given.0, subst (λ ps. IsChosenOf (files_of ps) (items text)) same given.1)
+  cut-text items (Ok text) some few given = (why-cut some few ∙ given.0, subst (λ files. IsChosenOf files (items text)) same given.1)
   cut-text items (Err told) some few given = tt
 
-  pub cut-refusal : {A : Type 0} (result : Result A Refusal) → 1 ≤ length (files_of pieces) → length (files_of pieces) ≤ most_plans →
-      IfErr result (IsRefusalOf (why_of_candidates 0 (files_of pieces)) ⊥) → IfErr result (IsRefusalOf (choose_refused input) ⊥)
+  pub cut-refusal : {A : Type 0} (result : Result A Refusal) → 1 ≤ length files → length files ≤ 16 →
+      IfErr result (IsRefusalOf (why_of_candidates 0 files) ⊥) → IfErr result (IsRefusalOf (choose_refused input) ⊥)
   cut-refusal (Ok text) some few given = tt
   cut-refusal (Err told) some few given = subst (λ why. IsRefusalOf why ⊥ told) (sym (why-cut some few)) given
 
--- an input that isn't cut tells its separators
-pub plans-told : (input : List ℕ) (found : ℕ) (told : Refusal) → (found ≡ separators_in input) × ((found ≡ 0) ⊎ (most_plans < found)) →
+-- an input that isn't cut tells how many plans it has
+pub plans-told : (input : List ℕ) (found : ℕ) (told : Refusal) → (found ≡ length (candidates_in input)) × ((found ≡ 0) ⊎ (16 < found)) →
     IsRefusalOf (Some (plans_refused found)) ⊥ told → IsRefusalOf (choose_refused input) ⊥ told
 plans-told input found told is given =
-    let counted : (separators_in input ≡ 0) ⊎ (most_plans < separators_in input) = subst (λ n. (n ≡ 0) ⊎ (most_plans < n)) is.0 is.1 in
+    let counted : (length (candidates_in input) ≡ 0) ⊎ (16 < length (candidates_in input)) = subst (λ n. (n ≡ 0) ⊎ (16 < n)) is.0 is.1 in
     subst (λ why. IsRefusalOf why ⊥ told) (sym (refused-plans input counted ∙ ap (λ n. Some (plans_refused n)) (sym is.0))) given

@@ -1,28 +1,22 @@
 -- The choice among the plans of an input: why there is none, and its text.
-use Rattle.std.specs.Prelude.{◌≡◌, ℕ, ◌+◌, ◌&&◌, List, [], ◌∷◌, ◌++◌, Option, Some, None, Result, Ok, Err, codes, decimal, if◌then◌else◌, length, map, nat_le, nat_lt, slice_index}
+use Rattle.std.specs.Prelude.{◌≡◌, ℕ, ◌+◌, ◌&&◌, List, [], ◌∷◌, ◌++◌, Option, Some, None, Result, Ok, Err, codes, decimal, if◌then◌else◌, length, map, nat_le, slice_index}
 use Rattle.network_file.specs.Network.{Network}
 use Rattle.network_file.specs.Reading.{network_of}
 use Rattle.network_file.specs.declared.fault.NetFault.{NetFault}
 use Rattle.line_fields.specs.Fields.{amount_field, count_field, lines_of}
 use Rattle.plan_choice.specs.Choice.{IsChoice, whole_delay}
-use Rattle.plan_choice.specs.Pieces.{candidates_in, most_plans, separators_in}
+use Rattle.plan_choice.specs.Pieces.{candidates_in}
 use Rattle.call_ending.specs.Refusing.{Why}
 use Rattle.call_ending.specs.declared.status.Status.TheVariants as status
 use Rattle.call_beginning.specs.NetworkInput.{fault_told}
 
--- an input with so many separators, none or too many
-unfoldable pub plans_line : (separators : ℕ) → List ℕ
-plans_line separators = codes "ctm: plans: " ++ decimal separators ++ codes "\n"
-
-abbrev pub plans_refused : (separators : ℕ) → Why
-plans_refused separators = record { status = status.Plans; line = plans_line separators }
+-- an input with so many plans, none or too many
+abbrev pub plans_refused : (plans : ℕ) → Why
+plans_refused plans = record { status = status.Plans; line = codes "ctm: plans: " ++ decimal plans ++ codes "\n" }
 
 -- the first fault of the candidate of plan p
-unfoldable pub candidate_line : (p : ℕ) → NetFault → List ℕ
-candidate_line p fault = codes "ctm: network: plan " ++ decimal p ++ codes " " ++ fault_told fault
-
 abbrev pub candidate_refused : (p : ℕ) → NetFault → Why
-candidate_refused p fault = record { status = status.Network; line = candidate_line p fault }
+candidate_refused p fault = record { status = status.Network; line = codes "ctm: network: plan " ++ decimal p ++ codes " " ++ fault_told fault }
 
 -- a candidate's own fault comes before those of later ones
 abbrev pub why_of_candidate : (p : ℕ) → Result Network NetFault → (later : Option Why) → Option Why
@@ -36,8 +30,8 @@ why_of_candidates p (file ∷ files) = why_of_candidate p (network_of file) (why
 
 abbrev pub choose_refused : (input : List ℕ) → Option Why
 choose_refused input =
-    if nat_lt 0 (separators_in input) && nat_le (separators_in input) most_plans then why_of_candidates 0 (candidates_in input)
-    else Some (plans_refused (separators_in input))
+    let plans = length (candidates_in input) in
+    if nat_le 1 plans && nat_le plans 16 then why_of_candidates 0 (candidates_in input) else Some (plans_refused plans)
 
 -- `plan,p,delay`
 unfoldable pub plan_line : (p delay : ℕ) → List ℕ

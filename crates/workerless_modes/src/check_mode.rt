@@ -1,9 +1,9 @@
-ghost use Rattle.std.specs.Prelude.{◌≡◌, ◌≤◌, ◌++◌, [], if◌then◌else◌, length, nat_le, IfErr, IfOk, None, OnOk};
+ghost use Rattle.std.specs.Prelude.{◌≡◌, ◌≤◌, ◌++◌, ◌==◌, [], codes, if◌then◌else◌, length, nat_le, IfErr, IfOk, None, OnOk};
 ghost use Rattle.signal_plan.specs.Counts.{speed_count, turn_count};
 ghost use Rattle.network_file.specs.declared.limits.TheConstants.{MOST_BYTES};
 ghost use Rattle.line_fields.specs.Fields.{count_field};
 ghost use Rattle.call_ending.specs.Refusing.{IsRefusalOf};
-ghost use Rattle.workerless_modes.specs.CheckMode.{IsCheckText, check_refused, counts_line, format_word};
+ghost use Rattle.workerless_modes.specs.CheckMode.{IsCheckText, check_refused, counts_line};
 
 use call_beginning::network_in;
 use call_ending::Refusal;
@@ -46,7 +46,7 @@ fn counts(alloc: Global, net: &Net) -> Result<Vec<u8>, NoMemory>
 
 // The first word of the line, by the format.
 fn put_name(text: &mut Vec<u8>, net: &Net) -> Result<(), NoMemory>
-    ensures { OnOk result (text.new.items ≡ text.old.items ++ format_word net.now.format) }
+    ensures { OnOk result (text.new.items ≡ text.old.items ++ (if net.now.format == 1 then codes "network" else if net.now.format == 2 then codes "network2" else codes "network3")) }
 {
     if net.format == 1 {
         text.extend_from_slice(b"network")?;

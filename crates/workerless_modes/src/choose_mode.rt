@@ -1,19 +1,18 @@
-ghost use Rattle.std.specs.Prelude.{◌≡◌, ◌<◌, ◌≤◌, ◌++◌, ◌∷◌, ◌^◌, ℕ, [], All, IfErr, IfOk, None, Ok, OnOk, Option, length, map, slice_index, slice_index_or};
+ghost use Rattle.std.specs.Prelude.{◌≡◌, ◌<◌, ◌≤◌, ◌++◌, ◌∷◌, ◌^◌, ℕ, [], All, IfErr, IfOk, None, Ok, OnOk, Option, codes, decimal, length, map, slice_index, slice_index_or};
 ghost use Rattle.network_file.specs.Reading.{network_of};
 ghost use Rattle.network_file.specs.declared.limits.TheConstants.{MOST_BYTES};
 ghost use Rattle.line_fields.specs.Fields.{lines_of};
-ghost use Rattle.plan_choice.specs.Pieces.{files_of, most_plans};
 ghost use Rattle.call_ending.specs.Refusing.{IsRefusalOf, Why};
-ghost use Rattle.call_beginning.specs.NetworkInput.{IsToldOf};
-ghost use Rattle.workerless_modes.specs.ChooseMode.{IsChooseText, IsChosenAmong, IsChosenOf, candidate_line, candidate_refused, choice_text, choose_refused, plan_line, plans_line, plans_refused, why_of_candidate, why_of_candidates};
+ghost use Rattle.call_beginning.specs.NetworkInput.{IsToldOf, fault_told};
+ghost use Rattle.workerless_modes.specs.ChooseMode.{IsChooseText, IsChosenAmong, IsChosenOf, candidate_refused, choice_text, choose_refused, plan_line, plans_refused, why_of_candidate, why_of_candidates};
 
 use call_beginning::put_fault;
 use call_ending::{Cause, Line, Refusal};
 use itoa::Buffer;
 use line_fields::{put_count, put_signed};
-use network_file::{Net, NetFault, NetRefusal};
-use no_memory::NoMemory;
-use plan_choice::{Choice, Pieces, PiecesRefusal, choose};
+use network_file::{Net, NetFault};
+use no_memory::{NoMemory, Refused};
+use plan_choice::{Choice, Pieces, choose};
 use std::alloc::Global;
 use std::thread::Threads;
 
@@ -29,18 +28,18 @@ pub fn choose_text<R: Threads + Sync>(
 {
     match Pieces::of(alloc, input) {
         Ok(pieces) => text_of(rt, alloc, &pieces),
-        Err(PiecesRefusal::Plans { found }) => Err(miscounted(alloc, found)),
-        Err(PiecesRefusal::NoMemory) => Err(Refusal::NoMemory),
+        Err(Refused::Fault(count)) => Err(miscounted(alloc, count.found)),
+        Err(Refused::NoMemory) => Err(Refusal::NoMemory),
     }
 }
 
 // The same of an input that was cut so.
 fn text_of<R: Threads + Sync>(rt: &R, alloc: Global, pieces: &Pieces) -> Result<Vec<u8>, Refusal>
-    requires some { 1 ≤ length (files_of pieces.now) }
-    requires few { length (files_of pieces.now) ≤ most_plans }
-    requires few_bytes { (p : ℕ) → length (slice_index_or (files_of pieces.now) p []) ≤ MOST_BYTES }
-    ensures text { IfOk result (λ text. (why_of_candidates 0 (files_of pieces.now) ≡ None) × IsChosenOf (files_of pieces.now) text.items) }
-    ensures refusal { IfErr result (IsRefusalOf (why_of_candidates 0 (files_of pieces.now)) ⊥) }
+    requires some { 1 ≤ length pieces.now }
+    requires few { length pieces.now ≤ 16 }
+    requires few_bytes { (p : ℕ) → length (slice_index_or pieces.now p []) ≤ MOST_BYTES }
+    ensures text { IfOk result (λ text. (why_of_candidates 0 pieces.now ≡ None) × IsChosenOf pieces.now text.items) }
+    ensures refusal { IfErr result (IsRefusalOf (why_of_candidates 0 pieces.now) ⊥) }
 {
     match networks(alloc, pieces) {
         Ok(nets) => Ok(chosen(rt, alloc, &nets)?),
@@ -58,9 +57,8 @@ fn miscounted(alloc: Global, separators: u64) -> Refusal
     }
 }
 
-#[tactic(auto, unfolding(crate::specs::ChooseMode::plans_line))]
 fn counted_line(alloc: Global, separators: u64) -> Result<Vec<u8>, NoMemory>
-    ensures { IfOk result (λ line. line.items ≡ plans_line separators) }
+    ensures { IfOk result (λ line. line.items ≡ codes "ctm: plans: " ++ decimal separators ++ codes "\n") }
 {
     let mut digits = Buffer::new();
     let mut line = Vec::new(alloc);
@@ -72,11 +70,11 @@ fn counted_line(alloc: Global, separators: u64) -> Result<Vec<u8>, NoMemory>
 
 // The networks of all candidates, or the refusal of the first that has a fault.
 fn networks(alloc: Global, pieces: &Pieces) -> Result<Vec<Net>, Refusal>
-    requires few_bytes { (p : ℕ) → length (slice_index_or (files_of pieces.now) p []) ≤ MOST_BYTES }
-    ensures networks { IfOk result (λ nets. map network_of (files_of pieces.now) ≡ map Ok nets.items) }
-    ensures one_each { IfOk result (λ nets. length nets.items ≡ length (files_of pieces.now)) }
-    ensures accepted { IfOk result (λ nets. why_of_candidates 0 (files_of pieces.now) ≡ None) }
-    ensures refusal { IfErr result (IsRefusalOf (why_of_candidates 0 (files_of pieces.now)) ⊥) }
+    requires few_bytes { (p : ℕ) → length (slice_index_or pieces.now p []) ≤ MOST_BYTES }
+    ensures networks { IfOk result (λ nets. map network_of pieces.now ≡ map Ok nets.items) }
+    ensures one_each { IfOk result (λ nets. length nets.items ≡ length pieces.now) }
+    ensures accepted { IfOk result (λ nets. why_of_candidates 0 pieces.now ≡ None) }
+    ensures refusal { IfErr result (IsRefusalOf (why_of_candidates 0 pieces.now) ⊥) }
 {
     let mut nets = Vec::new(alloc);
     let count = pieces.count();
@@ -99,11 +97,11 @@ fn put_network(nets: &mut Vec<Net>, net: Net) -> Result<(), NoMemory>
 
 // The network of candidate `p`, whose bytes are there for as long as they are read.
 fn network(alloc: Global, pieces: &Pieces, p: u32) -> Result<Net, Refusal>
-    requires there { p < length (files_of pieces.now) }
-    requires few_bytes { length (slice_index_or (files_of pieces.now) p []) ≤ MOST_BYTES }
-    ensures network { IfOk result (λ net. network_of (slice_index_or (files_of pieces.now) p []) ≡ Ok net) }
+    requires there { p < length pieces.now }
+    requires few_bytes { length (slice_index_or pieces.now p []) ≤ MOST_BYTES }
+    ensures network { IfOk result (λ net. network_of (slice_index_or pieces.now p []) ≡ Ok net) }
     ensures refusal { IfErr result (λ refusal. (later : Option Why) →
-        IsRefusalOf (why_of_candidate p (network_of (slice_index_or (files_of pieces.now) p [])) later) ⊥ refusal) }
+        IsRefusalOf (why_of_candidate p (network_of (slice_index_or pieces.now p [])) later) ⊥ refusal) }
 {
     let file = pieces.candidate(alloc, p)?;
     match Net::read(alloc, &file) {
@@ -113,21 +111,20 @@ fn network(alloc: Global, pieces: &Pieces, p: u32) -> Result<Net, Refusal>
 }
 
 // The refusal of candidate `p`, with the line that tells its fault.
-fn refused_candidate(alloc: Global, p: u32, refusal: NetRefusal) -> Refusal
+fn refused_candidate(alloc: Global, p: u32, refusal: Refused<NetFault>) -> Refusal
     ensures { IsToldOf (candidate_refused p) refusal result }
 {
     match refusal {
-        NetRefusal::Fault(fault) => match candidate_fault(alloc, p, fault) {
+        Refused::Fault(fault) => match candidate_fault(alloc, p, fault) {
             Ok(line) => Refusal::Told(Cause::Network, Line::Made(line)),
             Err(NoMemory) => Refusal::NoMemory,
         },
-        NetRefusal::NoMemory => Refusal::NoMemory,
+        Refused::NoMemory => Refusal::NoMemory,
     }
 }
 
-#[tactic(auto, unfolding(crate::specs::ChooseMode::candidate_line))]
 fn candidate_fault(alloc: Global, p: u32, fault: NetFault) -> Result<Vec<u8>, NoMemory>
-    ensures { IfOk result (λ line. line.items ≡ candidate_line p fault) }
+    ensures { IfOk result (λ line. line.items ≡ codes "ctm: network: plan " ++ decimal p ++ codes " " ++ fault_told fault) }
 {
     let mut digits = Buffer::new();
     let mut line = Vec::new(alloc);
@@ -141,7 +138,7 @@ fn candidate_fault(alloc: Global, p: u32, fault: NetFault) -> Result<Vec<u8>, No
 // The text of the choice among networks.
 fn chosen<R: Threads + Sync>(rt: &R, alloc: Global, nets: &[Net]) -> Result<Vec<u8>, NoMemory>
     requires some { 1 ≤ length nets.now }
-    requires few { length nets.now ≤ most_plans }
+    requires few { length nets.now ≤ 16 }
     ensures { IfOk result (λ text. IsChosenAmong nets.now text.items) }
 {
     let choice = choose(rt, alloc, nets)?;

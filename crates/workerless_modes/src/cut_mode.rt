@@ -1,12 +1,12 @@
-ghost use Rattle.std.specs.Prelude.{◌≡◌, ◌≤◌, ◌++◌, IfErr, IfOk, None, OnOk, length, min};
+ghost use Rattle.std.specs.Prelude.{◌≡◌, ◌≤◌, ◌++◌, IfErr, IfOk, None, OnOk, codes, length, min};
 ghost use Rattle.command_words.specs.Words.{IsInRange};
 ghost use Rattle.network_file.specs.Cells.{name_at};
 ghost use Rattle.network_file.specs.declared.limits.TheConstants.{MOST_BYTES, MOST_REGIONS};
-ghost use Rattle.line_fields.specs.Fields.{lines_of};
+ghost use Rattle.line_fields.specs.Fields.{count_field, lines_of};
 ghost use Rattle.region_cut.specs.Cuttings.{even_cutting, region_at};
 ghost use Rattle.call_ending.specs.Refusing.{IsRefusalOf};
 ghost use Rattle.call_beginning.specs.Task.{task_of};
-ghost use Rattle.workerless_modes.specs.CutMode.{IsCutText, ShowsGrown, cut_line, cut_refused, cutting_text, cell_region_line};
+ghost use Rattle.workerless_modes.specs.CutMode.{IsCutText, ShowsGrown, cut_refused, cutting_text, cell_region_line};
 
 use call_beginning::{network_in, regions_wanted};
 use call_ending::Refusal;
@@ -67,9 +67,8 @@ fn cutting_text(
     Ok(text)
 }
 
-#[tactic(auto, unfolding(crate::specs::CutMode::cut_line))]
 fn put_cut_line(text: &mut Vec<u8>, k: u32, even: u32, grown: u32) -> Result<(), NoMemory>
-    ensures { OnOk result (text.new.items ≡ text.old.items ++ cut_line k even grown) }
+    ensures { OnOk result (text.new.items ≡ text.old.items ++ codes "cut" ++ count_field k ++ count_field even ++ count_field grown ++ codes "\n") }
 {
     text.extend_from_slice(b"cut")?;
     put_count(text, u64::from(k))?;

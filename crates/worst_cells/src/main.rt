@@ -7,9 +7,9 @@ mod worst;
 use call_ending::{Cause, Line, Refusal, end};
 use ctm_ports::{ReadEnd, Source, StdSink, StdSource, read_up_to};
 use delay_report::run_rows;
-use network_file::{MOST_BYTES, Net, NetRefusal};
+use network_file::{MOST_BYTES, Net};
 use network_run::last_regions;
-use no_memory::NoMemory;
+use no_memory::{NoMemory, Refused};
 use region_cut::charted;
 use region_slots::NoObserver;
 use std::alloc::Global;
@@ -37,11 +37,11 @@ fn answer<R: Threads + Sync, S: Source>(
     match read_up_to(alloc, source, MOST_BYTES) {
         ReadEnd::Whole(bytes) => match Net::read(alloc, &bytes) {
             Ok(net) => Ok(lines(rt, alloc, &net)?),
-            Err(NetRefusal::Fault(_)) => Err(told(
+            Err(Refused::Fault(_)) => Err(told(
                 Cause::Network,
                 b"worst_cells: no network; ctm check tells why\n",
             )),
-            Err(NetRefusal::NoMemory) => Err(Refusal::NoMemory),
+            Err(Refused::NoMemory) => Err(Refusal::NoMemory),
         },
         ReadEnd::TooLong => Err(told(Cause::TooLarge, b"worst_cells: too large\n")),
         ReadEnd::Failed => Err(Refusal::ReadFault),

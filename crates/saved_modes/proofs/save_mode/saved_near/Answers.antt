@@ -1,3 +1,4 @@
+use Rattle.std.specs.Prelude.{IsSomeAnd}
 use Rattle.std.proofs.Common.{◌≡◌, length, min, arith, ap, refl, subst, ◌∙◌}
 use Rattle.network_file.specs.Network.{IsNetwork, Network}
 use Rattle.network_file.proofs.NetworkFacts.{few_cells}
@@ -8,13 +9,12 @@ use Rattle.region_step.specs.Start.{StartLists, zero_start}
 use Rattle.region_step.proofs.StartLaws.{zero_start-fits, zero_start-lawful, zero_start-true}
 use Rattle.snapshot.specs.Shots.{AreStepsBetween}
 use Rattle.snapshot.specs.Snapshots.{IsSnapshot}
-use Rattle.saved_run.specs.Laws.{BeginsTrue, IsTrueShot}
+use Rattle.saved_run.specs.Laws.{HasTrueStart, IsTrueShot}
 use Rattle.saved_run.specs.Reading.{content_of}
 use Rattle.saved_run.specs.SavedText.{saved_text}
 use Rattle.region_slots.specs.Moments.{cut_run}
 use Rattle.network_run.specs.Near.{near_end}
 use Rattle.network_run.specs.Telling.{HasTold, Telling, zero_run}
-use Rattle.saved_modes.specs.SaveMode.{IsSavedNear}
 use Rattle.saved_modes.proofs.ResumedAs.{begins-resumed_as}
 use Rattle.saved_modes.proofs.Saved.{shown-run}
 use Rattle.saved_modes.proofs.save_mode.saved_near.Goals as goal
@@ -47,19 +47,17 @@ returns-clause-saved g c =
       true_start = zero_start-true net chart.cut;
       snapshot = snapshot;
     } in
-    let begins = subst (λ cut. (n : Network) (start : StartLists) → IsTrueShot c.args.input.now n cut start c.in_ok-room.room → BeginsTrue (content_of c.in_ok-text.text.items) n cut) used
-    c.in_ok-text.ensures.true_start in
-    let near : IsSavedNear net chart.cut c.from-until.result c.args.input.now c.in_ok-text.text.items = record {
-      steps = c.in_ok-room.room.steps;
-      stand = subst (λ (s : SetupValue). AreStepsBetween s.net s.chart.cut (min c.from-until.result s.net.steps) (near_end s.net c.from-until.result) c.in_ok-room.room.steps) is c.in_ok-room.ensures.near;
-      saved = (rw used at c.in_ok-text.ensures.text) ∙ ap saved_text (shown-run net chart.cut c.in_ok-room.room sound one_each snapshot c.args.input.now);
-      begins = begins net (zero_start net chart.cut) shot;
-    } in
+    let begins = (subst (λ cut. (n : Network) (start : StartLists) → IsTrueShot c.args.input.now n cut start c.in_ok-room.room → IsSomeAnd (content_of c.in_ok-text.text.items) (λ content. HasTrueStart content n cut)) used
+    c.in_ok-text.ensures.true_start) net (zero_start net chart.cut) shot in
+    let stand = subst (λ (s : SetupValue). AreStepsBetween s.net s.chart.cut (min c.from-until.result s.net.steps) (near_end s.net c.from-until.result) c.in_ok-room.room.steps) is c.in_ok-room.ensures.near in
     record {
       cut = chart.cut;
       cutting = c.in_ok-layout.ensures.cutting;
-      near = subst (λ until. IsSavedNear net chart.cut until c.args.input.now c.in_ok-text.text.items) c.from-until.ensures near;
-      resumed = begins-resumed_as net chart.cut c.in_ok-text.text.items sound near.begins c.in_ok-text.ensures.short;
+      steps = c.in_ok-room.room.steps;
+      stand = subst (λ until. AreStepsBetween net chart.cut (min until net.steps) (near_end net until) c.in_ok-room.room.steps) c.from-until.ensures stand;
+      saved = (rw used at c.in_ok-text.ensures.text) ∙ ap saved_text (shown-run net chart.cut c.in_ok-room.room sound one_each snapshot c.args.input.now);
+      begins = begins;
+      resumed = begins-resumed_as net chart.cut c.in_ok-text.text.items sound begins c.in_ok-text.ensures.short;
     }
 
 pub returns-clause-told : goal.returns-clause-told
