@@ -1,8 +1,8 @@
 -- The lists that are gathered are those of the chart.
 use Rattle.std.specs.Prelude.{not, ◌==◌, ◌&&◌}
 use Rattle.std.specs.List.{Contains, filter, list_any, range_with_len}
-use Rattle.std.proofs.Common.{◌≡◌, ℕ, inl, inr, true, List, length, sym, ap, subst, ◌∙◌}
-use Rattle.std.proofs.lemmas.Bool.{cases_Bool, eq-eqb, eqb-true}
+use Rattle.std.proofs.Common.{◌≡◌, ℕ, true, List, length, sym, ap, subst, ◌∙◌}
+use Rattle.std.proofs.lemmas.Bool.{eq-eqb, eqb-true}
 use Rattle.std.proofs.lemmas.List.Elements.{filter_agree}
 use Rattle.std.proofs.lemmas.List.Kept.{IsStrictlyIncreasing-filter}
 use Rattle.network_file.specs.Connectors.{touches}
@@ -10,10 +10,10 @@ use Rattle.network_file.specs.Network.{IsNetwork, Network}
 use Rattle.network_file.specs.declared.connector.Connector.{Connector}
 use Rattle.region_cut.specs.Chart.{border_of, halo_at, halo_of, neighbours_of}
 use Rattle.region_cut.specs.Cuttings.{region_at, region_count}
-use Rattle.region_cut.specs.Gathered.{inside, is_met, met_by, outside, halo_regions}
-use Rattle.region_cut.specs.Joins.{are_neighbours, is_border, is_halo, leaves_region, touches_region}
+use Rattle.region_cut.specs.Gathered.{inside, is_met, leaves_region, met_by, outside, halo_regions}
+use Rattle.region_cut.specs.Joins.{are_neighbours, is_border, is_halo, touches_region}
 use Rattle.region_cut.proofs.Anys.{apart, both, false_from_not, finds, first_of_both, found, not_false, not_same, same_tests, second_of_both}
-use Rattle.region_cut.proofs.Meetings.{border-by, border-from, halo-by, halo-from, halo-neighbours, neighbours-halo, touches-leaves_region, touches-touches_region, touches_region-cell}
+use Rattle.region_cut.proofs.Meetings.{border-by, border-from, crosses-from, crosses-leaves_region, halo-by, halo-from, halo-neighbours, neighbours-halo, touches-leaves_region, touches-touches_region, touches_region-cell}
 use Rattle.region_cut.proofs.Membership.{Contains-halo_of, halo_of-Contains}
 use Rattle.region_cut.proofs.Ranges.{Contains-filter, Contains-filter_range, filter-Contains, filter_range-Contains, filter_range-increasing, filter_range_is}
 
@@ -47,12 +47,7 @@ pub met-border : (connectors : List Connector) (cut : List ℕ) (r i : ℕ) → 
 met-border connectors cut r i met =
     let by = met-by connectors cut r i met in
     let here = touches_region-cell cut r by.connector by.first in
-    let leaves : leaves_region cut (region_at cut i) by.connector ≡ true =
-    elim (cases_Bool (region_at cut i == r)) [
-      | inl same ↦ subst (λ q. leaves_region cut q by.connector ≡ true) (sym (eqb-true (region_at cut i) r same)) by.leaves
-      | inr other ↦ touches-leaves_region cut (region_at cut i) here.0 by.connector here.1 (λ same. not_same (region_at cut i) r other (sym same ∙ here.2))
-    ] in
-    border-from connectors cut i by.connector by.has by.touched leaves
+    border-from connectors cut i by.connector by.has by.touched (crosses-from cut r here.0 by.connector here.1 here.2 by.leaves)
 
 -- of those met by a region, the cells that lie in it are its border
 pub inside-met_by : (net : Network) (cut : List ℕ) (r : ℕ) → inside cut r (met_by net cut r) ≡ border_of net cut r
@@ -64,18 +59,14 @@ inside-met_by net cut r =
     (λ i has.
     let parts = Contains-filter (λ j. region_at cut j == r) cells i has in
     let passed = Contains-filter_range (is_met net.connectors cut r) (length net.cells) i parts.0 in
-    let by = met-by net.connectors cut r i passed.1 in
-    let is : region_at cut i ≡ r = eqb-true (region_at cut i) r parts.1 in (
-      passed.0,
-      both (region_at cut i == r) (is_border net.connectors cut i) parts.1 (border-from net.connectors cut i by.connector by.has by.touched (rw is by.leaves)),
-    ))
+    (passed.0, both (region_at cut i == r) (is_border net.connectors cut i) parts.1 (met-border net.connectors cut r i passed.1)))
     (λ i within passes.
     let own = first_of_both (region_at cut i == r) (is_border net.connectors cut i) passes in
     let is : region_at cut i ≡ r = eqb-true (region_at cut i) r own in
     let by = border-by net.connectors cut i (second_of_both (region_at cut i == r) (is_border net.connectors cut i) passes) in
     filter-Contains (λ j. region_at cut j == r) cells i
     (filter_range-Contains (is_met net.connectors cut r) (length net.cells) i within
-    (met-from net.connectors cut r i by.0 by.1 (touches-touches_region cut r i by.0 by.2 is) (subst (λ p. leaves_region cut p by.0 ≡ true) is by.3) by.2))
+    (met-from net.connectors cut r i by.0 by.1 (touches-touches_region cut r i by.0 by.2 is) (crosses-leaves_region cut r by.0 by.3) by.2))
     own)
 
 -- and the others are those of its halo

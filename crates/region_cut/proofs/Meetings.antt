@@ -1,13 +1,14 @@
 -- Where connectors, cells and regions meet: what the tests of a cut network say of each other.
 use Rattle.std.specs.Prelude.{not, ◌==◌, ◌&&◌}
 use Rattle.std.specs.List.{Contains, list_any}
-use Rattle.std.proofs.Common.{◌≡◌, ◌≢◌, ℕ, ◌<◌, true, List, length, refl, sym, ◌∙◌}
-use Rattle.std.proofs.lemmas.Bool.{eq-eqb, eqb-true}
+use Rattle.std.proofs.Common.{◌≡◌, ◌≢◌, ℕ, ◌<◌, inl, inr, true, List, length, refl, sym, ◌∙◌}
+use Rattle.std.proofs.lemmas.Bool.{cases_Bool, eq-eqb, eqb-true}
 use Rattle.network_file.specs.Connectors.{are_joined, cells_of, touches}
 use Rattle.network_file.specs.Network.{IsNetwork, Network}
 use Rattle.network_file.specs.declared.connector.Connector.{Connector}
 use Rattle.region_cut.specs.Cuttings.{region_at}
-use Rattle.region_cut.specs.Joins.{are_neighbours, is_border, is_halo, leaves_region, touches_region}
+use Rattle.region_cut.specs.Joins.{are_neighbours, crosses, is_border, is_halo, touches_region}
+use Rattle.region_cut.specs.Gathered.{leaves_region}
 use Rattle.region_cut.proofs.Anys.{Contains-from_test, apart, both, false_from_not, finds, first_of_both, found, not_false, not_same, second_of_both, test_from_Contains}
 use Rattle.region_cut.proofs.ConnectorCells.{touches-there}
 
@@ -61,21 +62,38 @@ neighbours-sym connectors cut r q near =
     let by = neighbours-by connectors cut r q near in
     neighbours-from connectors cut q r by.connector by.has (λ same. by.differ (sym same)) by.second by.first
 
+-- a connector that touches a region crosses exactly where it leaves it
+pub crosses-from : (cut : List ℕ) (r i : ℕ) (connector : Connector) → touches i connector ≡ true → region_at cut i ≡ r → leaves_region cut r connector ≡ true → crosses cut connector ≡ true
+crosses-from cut r i connector touched is leaves =
+    let cells = cells_of connector in
+    let out = found (λ j. not (region_at cut j == r)) cells leaves in
+    let differ = apart (region_at cut i) (region_at cut out.0) (λ same. not_same _ r (false_from_not (region_at cut out.0 == r) out.2) (sym same ∙ is)) in
+    finds (λ j. list_any (λ k. not (region_at cut j == region_at cut k)) cells) cells i (Contains-from_test cells i touched)
+    (finds (λ k. not (region_at cut i == region_at cut k)) cells out.0 out.1 (not_false _ differ))
+
+pub crosses-leaves_region : (cut : List ℕ) (r : ℕ) (connector : Connector) → crosses cut connector ≡ true → leaves_region cut r connector ≡ true
+crosses-leaves_region cut r connector crossed =
+    let cells = cells_of connector in
+    let one = found (λ j. list_any (λ k. not (region_at cut j == region_at cut k)) cells) cells crossed in
+    let other = found (λ k. not (region_at cut one.0 == region_at cut k)) cells one.2 in
+    elim (cases_Bool (region_at cut one.0 == r)) [
+      | inl is ↦
+          let differ = false_from_not (region_at cut one.0 == region_at cut other.0) other.2 in
+          touches-leaves_region cut r other.0 connector (test_from_Contains cells other.0 other.1) (λ same. not_same _ _ differ (eqb-true _ r is ∙ sym same))
+      | inr differs ↦ touches-leaves_region cut r one.0 connector (test_from_Contains cells one.0 one.1) (not_same _ r differs)
+    ]
+
 -- a border cell, by a connector
 pub border-from : (connectors : List Connector) (cut : List ℕ) (i : ℕ) (connector : Connector) → Contains connectors connector → touches i connector ≡ true →
-    leaves_region cut (region_at cut i) connector ≡ true → is_border connectors cut i ≡ true
-border-from connectors cut i connector has touched leaves =
-    finds (λ c. touches i c && leaves_region cut (region_at cut i) c) connectors connector has (both (touches i connector) (leaves_region cut (region_at cut i) connector) touched leaves)
+    crosses cut connector ≡ true → is_border connectors cut i ≡ true
+border-from connectors cut i connector has touched crossed =
+    finds (λ c. touches i c && crosses cut c) connectors connector has (both (touches i connector) (crosses cut connector) touched crossed)
 
 pub border-by : (connectors : List Connector) (cut : List ℕ) (i : ℕ) → is_border connectors cut i ≡ true →
-    (connector : Connector) × Contains connectors connector × (touches i connector ≡ true) × (leaves_region cut (region_at cut i) connector ≡ true)
+    (connector : Connector) × Contains connectors connector × (touches i connector ≡ true) × (crosses cut connector ≡ true)
 border-by connectors cut i border =
-    let here = found (λ c. touches i c && leaves_region cut (region_at cut i) c) connectors border in (
-      here.0,
-      here.1,
-      first_of_both (touches i here.0) (leaves_region cut (region_at cut i) here.0) here.2,
-      second_of_both (touches i here.0) (leaves_region cut (region_at cut i) here.0) here.2,
-    )
+    let here = found (λ c. touches i c && crosses cut c) connectors border in
+    (here.0, here.1, first_of_both (touches i here.0) (crosses cut here.0) here.2, second_of_both (touches i here.0) (crosses cut here.0) here.2)
 
 -- a cell of a halo, by a connector
 pub halo-from : (connectors : List Connector) (cut : List ℕ) (r i : ℕ) (connector : Connector) → Contains connectors connector → touches i connector ≡ true →
@@ -115,7 +133,7 @@ halo-border connectors cut r i met =
     let by = halo-by connectors cut r i met in
     let cell = touches_region-cell cut r by.connector by.first in
     border-from connectors cut i by.connector by.has by.touched
-    (touches-leaves_region cut (region_at cut i) cell.0 by.connector cell.1 (λ same. by.differ (sym same ∙ cell.2)))
+    (crosses-from cut r cell.0 by.connector cell.1 cell.2 (touches-leaves_region cut r i by.connector by.touched by.differ))
 
 -- neighbours have a cell of each in the other's halo
 pub neighbours-halo : (net : Network) (cut : List ℕ) (r q : ℕ) → IsNetwork net → are_neighbours net.connectors cut r q ≡ true →

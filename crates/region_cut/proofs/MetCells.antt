@@ -11,8 +11,8 @@ use Rattle.network_file.specs.Network.{IsNetwork, Network}
 use Rattle.network_file.specs.declared.connector.Connector.{Connector}
 use Rattle.network_file.specs.declared.connector.Connector.TheVariants.{Link}
 use Rattle.region_cut.specs.Chart.{connectors_of}
-use Rattle.region_cut.specs.Gathered.{is_met, met_by}
-use Rattle.region_cut.specs.Joins.{leaves_region, touches_region}
+use Rattle.region_cut.specs.Gathered.{is_met, leaves_region, met_by}
+use Rattle.region_cut.specs.Joins.{touches_region}
 use Rattle.region_cut.proofs.Anys.{Contains-from_test, both, finds, first_of_both, found, same_tests, second_of_both, test_from_Contains}
 use Rattle.region_cut.proofs.ConnectorCells.{touches-there}
 use Rattle.region_cut.proofs.Ranges.{Contains-filter_range, filter_range-Contains, filter_range_is}

@@ -1,5 +1,5 @@
 -- When a list is no cutting of a network.
-use Rattle.std.specs.Prelude.{◌≡◌, ⊤, ℕ, ◌==◌, nat_lt, List, length, Result, Ok, Err}
+use Rattle.std.specs.Prelude.{ℕ, ◌==◌, nat_lt, List, length, Result, Ok}
 use Rattle.std.specs.List.{list_all}
 use Rattle.network_file.specs.Checks.{◌>>◌, must}
 use Rattle.network_file.specs.Cutting.{has_no_gap}
@@ -7,8 +7,6 @@ use Rattle.network_file.specs.Network.{Network}
 use Rattle.network_file.specs.Limits.{most_regions}
 use Rattle.region_cut.specs.declared.fault.CutFault.{CutFault}
 use Rattle.region_cut.specs.declared.fault.CutFault.TheVariants.{Length, Gap, Many}
-use Rattle.region_cut.specs.declared.fault.CutRefusal.{CutRefusal}
-use Rattle.region_cut.specs.declared.fault.CutRefusal.TheVariants.{Fault, NoMemory}
 
 -- the list as a cutting of the network's cells, or its first fault
 unfoldable pub cut_of : Network → List ℕ → Result (List ℕ) CutFault
@@ -17,11 +15,6 @@ cut_of net list = do
   must (list_all (λ region. nat_lt region most_regions) list) Many
   must (has_no_gap list) Gap
   Ok list
-
--- the refusal names the list's first fault, or memory was refused, which says nothing of the list
-abbrev pub IsCutRefusal : CutRefusal → Result (List ℕ) CutFault → Type 0
-IsCutRefusal (Fault fault) wanted = wanted ≡ Err fault
-IsCutRefusal NoMemory wanted = ⊤
 
 -- the number of a fault
 abbrev pub fault_number : CutFault → ℕ

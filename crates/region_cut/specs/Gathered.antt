@@ -1,13 +1,17 @@
 -- The lists that are gathered on the way to a chart.
 use Rattle.std.specs.Prelude.{◌≡◌, ℕ, ◌<◌, ◌^◌, Bool, true, not, ◌==◌, ◌&&◌, List, length}
 use Rattle.std.specs.List.{filter, list_any, position_or_len, range_with_len}
-use Rattle.network_file.specs.Connectors.{touches}
+use Rattle.network_file.specs.Connectors.{cells_of, touches}
 use Rattle.network_file.specs.Network.{Network}
 use Rattle.network_file.specs.declared.connector.Connector.{Connector}
 use Rattle.region_cut.specs.Chart.{list_at}
 use Rattle.region_cut.specs.Cuttings.{region_at}
-use Rattle.region_cut.specs.Joins.{leaves_region, touches_region}
+use Rattle.region_cut.specs.Joins.{touches_region}
 use Rattle.region_cut.specs.declared.halo.Halo.{Halo}
+
+-- the connector touches a cell of another region than r
+abbrev pub leaves_region : (cut : List ℕ) → (r : ℕ) → Connector → Bool
+leaves_region cut r connector = list_any (λ i. not (region_at cut i == r)) (cells_of connector)
 
 -- cell i is one of those of a connector that touches region r and leaves it
 abbrev pub is_met : List Connector → (cut : List ℕ) → (r i : ℕ) → Bool

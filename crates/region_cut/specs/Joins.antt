@@ -9,10 +9,6 @@ use Rattle.region_cut.specs.Cuttings.{region_at}
 abbrev pub touches_region : (cut : List ℕ) → (r : ℕ) → Connector → Bool
 touches_region cut r connector = list_any (λ i. region_at cut i == r) (cells_of connector)
 
--- it touches a cell of another region than r
-abbrev pub leaves_region : (cut : List ℕ) → (r : ℕ) → Connector → Bool
-leaves_region cut r connector = list_any (λ i. not (region_at cut i == r)) (cells_of connector)
-
 -- it touches cells of more than one region
 abbrev pub crosses : (cut : List ℕ) → Connector → Bool
 crosses cut connector =
@@ -25,8 +21,7 @@ are_neighbours connectors cut r q =
 
 -- cell i is a border cell of its region: a connector that touches it touches another region too
 abbrev pub is_border : List Connector → (cut : List ℕ) → (i : ℕ) → Bool
-is_border connectors cut i =
-    list_any (λ connector. touches i connector && leaves_region cut (region_at cut i) connector) connectors
+is_border connectors cut i = list_any (λ connector. touches i connector && crosses cut connector) connectors
 
 -- cell i of another region is in the halo of region r: a connector touches it and a cell of r
 abbrev pub is_halo : List Connector → (cut : List ℕ) → (r i : ℕ) → Bool

@@ -1,14 +1,15 @@
 ghost use Rattle.std.specs.Prelude.{◌≡◌, ◌≤◌, Ok, IfErr, IfOk, length, nat_lt};
 ghost use Rattle.std.specs.List.{list_all};
+ghost use Rattle.no_memory.specs.Answers.{IsRefusal};
 ghost use Rattle.network_file.specs.Cutting.{IsCutting};
 ghost use Rattle.network_file.specs.declared.limits.TheConstants.{MOST_REGIONS};
-ghost use Rattle.region_cut.specs.CutFaults.{cut_of, IsCutRefusal};
+ghost use Rattle.region_cut.specs.CutFaults.{cut_of};
 ghost use Rattle.region_cut.specs.Cuttings.{even_cutting, region_count};
 
 use crate::even::even_list;
-use crate::fault::{CutFault, CutRefusal};
+use crate::fault::CutFault;
 use network_file::{MOST_REGIONS, Net, greatest, has_no_gap};
-use no_memory::NoMemory;
+use no_memory::{NoMemory, Refused};
 use std::alloc::Global;
 use std::marker::Model;
 
@@ -23,6 +24,7 @@ impl Model for Cut {
 
     ghost Value = { List ℕ };
 
+    ghost use Rattle.no_memory.specs.Answers.{IsRefusal};
     ghost use Rattle.network_file.specs.Cutting.{IsCutting};
 
     ghost view = { λ cut. cut.regions.items };
@@ -44,19 +46,19 @@ impl Cut {
     }
 
     /// A list as a cutting of a network's cells, or its first fault.
-    pub fn of(alloc: Global, net: &Net, list: &[u32]) -> Result<Cut, CutRefusal>
+    pub fn of(alloc: Global, net: &Net, list: &[u32]) -> Result<Cut, Refused<CutFault>>
         ensures cut { IfOk result (λ cut. cut_of net.now list.now ≡ Ok cut) }
         ensures one_each { IfOk result (λ cut. length cut ≡ length net.now.cells) }
-        ensures refusal { IfErr result (λ refusal. IsCutRefusal refusal (cut_of net.now list.now)) }
+        ensures refusal { IfErr result (λ refusal. IsRefusal refusal (cut_of net.now list.now)) }
     {
         if list.len() != net.cells.len() {
-            return Err(CutRefusal::Fault(CutFault::Length));
+            return Err(Refused::Fault(CutFault::Length));
         }
         if !are_few(list) {
-            return Err(CutRefusal::Fault(CutFault::Many));
+            return Err(Refused::Fault(CutFault::Many));
         }
         if !has_no_gap(alloc, list)? {
-            return Err(CutRefusal::Fault(CutFault::Gap));
+            return Err(Refused::Fault(CutFault::Gap));
         }
         let regions = copied(alloc, list)?;
         Ok(Cut { regions })

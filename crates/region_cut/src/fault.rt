@@ -1,8 +1,6 @@
 ghost use Rattle.std.specs.Prelude.{◌≡◌};
 ghost use Rattle.region_cut.specs.CutFaults.{fault_number};
 
-use no_memory::NoMemory;
-
 /// Why a list is no cutting of a network. They are looked for in the order length, many, gap.
 #[derive(Clone, Copy, Debug, PartialEq, Eq)]
 pub enum CutFault {
@@ -24,24 +22,5 @@ impl CutFault {
             CutFault::Gap => 2,
             CutFault::Many => 3,
         }
-    }
-}
-
-/// Why no cutting was made of a list.
-#[derive(Clone, Copy, Debug, PartialEq, Eq)]
-pub enum CutRefusal {
-    /// The list is no cutting, and this is its first fault.
-    Fault(CutFault),
-    /// The memory that the cutting needs was refused.
-    NoMemory,
-}
-
-impl From<NoMemory> for CutRefusal {
-    ghost use Rattle.region_cut.specs.declared.fault.CutRefusal.TheVariants as refusal;
-
-    ghost from_gives = { λ _ refused. refused ≡ refusal.NoMemory };
-
-    fn from(_: NoMemory) -> CutRefusal {
-        CutRefusal::NoMemory
     }
 }

@@ -28,7 +28,7 @@ pub use chart::Chart;
 pub use connector_cells::three_cells;
 pub use crossing::crosses;
 pub use cut::Cut;
-pub use fault::{CutFault, CutRefusal};
+pub use fault::CutFault;
 pub use halo::Halo;
 pub use layout::Layout;
 pub use list_place::{place, place_if_listed};

@@ -5,7 +5,7 @@ use Rattle.std.proofs.lemmas.List.{take_all}
 use Rattle.network_file.specs.Connectors.{connector_at}
 use Rattle.network_file.specs.Network.{IsNetwork}
 use Rattle.region_cut.specs.Cuttings.{region_at}
-use Rattle.region_cut.specs.Joins.{leaves_region}
+use Rattle.region_cut.specs.Gathered.{leaves_region}
 use Rattle.region_cut.proofs.ConnectorCells.{taken, taken-there}
 use Rattle.region_cut.proofs.MetCells.{connectors_of-at, found_leaving, found_leaving-more, found_leaving-none, met_by-is}
 use Rattle.region_cut.proofs.met.met.Goals.{then-leaves+in_ok-extend_from_slice, else-leaves}
