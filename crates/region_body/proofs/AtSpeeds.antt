@@ -8,7 +8,7 @@ use Rattle.signal_plan.specs.Speeds.{arriving}
 use Rattle.signal_plan.proofs.Laws.{arriving-own}
 use Rattle.ordinary_link.specs.LinkFlow.{link_flow_of}
 use Rattle.region_body.specs.Places.{carried, link_out, no_place, place_at}
-use Rattle.region_body.specs.SpeedZones.{end_before, is_slow_four, is_whole_four, zone_at}
+use Rattle.region_body.specs.SpeedZones.{end_before, is_all_slow_four, is_slow_four, zone_at}
 use Rattle.connector_flow.specs.Space.{let_in}
 use Rattle.region_body.specs.Speeds.{CanSweep, at_speeds, slowed_place, ratio_at}
 use Rattle.region_body.specs.declared.speed_zone.SpeedZone.{SpeedZone}
@@ -95,11 +95,11 @@ all-of true true false d all = cc
 all-of true true true false all = cc
 all-of true true true true all = (refl, refl, refl, refl)
 
--- a place in a four that is slow as a whole is slow
-whole-four : (slow : ℕ → Bool) (p : ℕ) → is_whole_four slow (p / 4) ≡ true → slow p ≡ true
-whole-four slow p whole =
+-- a place in a four that is all slow is slow
+all_slow-four : (slow : ℕ → Bool) (p : ℕ) → is_all_slow_four slow (p / 4) ≡ true → slow p ≡ true
+all_slow-four slow p all_slow =
     let m : ℕ = p / 4 in
-    let all = all-of (slow (4 * m)) (slow (4 * m + 1)) (slow (4 * m + 2)) (slow (4 * m + 3)) whole in
+    let all = all-of (slow (4 * m)) (slow (4 * m + 1)) (slow (4 * m + 2)) (slow (4 * m + 3)) all_slow in
     elim (cases_eq p (4 * m)) [
       | inl first ↦ rw first all.0
       | inr a ↦ elim (cases_eq p (4 * m + 1)) [
@@ -122,10 +122,10 @@ few-asked places speeds zones from to can there p begun before other =
     ]
 
 pub few-in : (places : List Place) (speeds : List (ℕ × ℕ)) (zones : List SpeedZone) (k : ℕ) → CanSweep places speeds zones → k < length zones →
-    AreFew places speeds (zone_at zones k).whole (4 * (zone_at zones k).from) (4 * (zone_at zones k).to)
+    AreFew places speeds (zone_at zones k).all_slow (4 * (zone_at zones k).from) (4 * (zone_at zones k).to)
 few-in places speeds zones k can within p from before other =
     let there : p < length places = omega (arith, before, can.laid.within k within) in
-    elim (cases_Bool (zone_at zones k).whole) [
-      | inl whole ↦ can.few p there (whole-four can.slow p (can.laid.whole k (p / 4) within (omega (arith, from)) (omega (arith, before)) ∙ whole))
+    elim (cases_Bool (zone_at zones k).all_slow) [
+      | inl all_slow ↦ can.few p there (all_slow-four can.slow p (can.laid.all_slow k (p / 4) within (omega (arith, from)) (omega (arith, before)) ∙ all_slow))
       | inr asked ↦ few-asked places speeds zones p (p + 1) can (omega (arith, there)) p (omega arith) (omega arith) (λ _. other asked)
     ]

@@ -54,18 +54,18 @@ fn sweep_zone(
     requires there { 4 * zone.now.to < length places.old }
     requires known { length places.old ≤ length speeds.now }
     requires one_each { length before.old ≡ length places.old }
-    requires swept { (first : List PlaceValue) × IsSweptTo first speeds.now (4 * zone.now.from) places.old before.old enters × AreFew first speeds.now zone.now.whole (4 * zone.now.from) (4 * zone.now.to) }
+    requires swept { (first : List PlaceValue) × IsSweptTo first speeds.now (4 * zone.now.from) places.old before.old enters × AreFew first speeds.now zone.now.all_slow (4 * zone.now.from) (4 * zone.now.to) }
     ensures { (first : List PlaceValue) → IsSweptTo first speeds.now (4 * zone.now.from) places.old before.old enters →
         IsSweptTo first speeds.now (4 * zone.now.to) places.new before.new result }
 {
-    if zone.whole {
+    if zone.all_slow {
         slowed_fours(places, speeds, before, zone.from, zone.to, true, enters)
     } else {
         slowed_fours(places, speeds, before, zone.from, zone.to, false, enters)
     }
 }
 
-// Takes the fours from one up to another, of whole zones or of others.
+// Takes the fours from one up to another, of zones that are all slow or of others.
 #[inline(always)]
 fn slowed_fours(
     places: &mut [Place],
@@ -73,20 +73,20 @@ fn slowed_fours(
     before: &mut [u64],
     from: usize,
     to: usize,
-    whole: bool,
+    all_slow: bool,
     enters: u64,
 ) -> u64
     requires forward { from ≤ to }
     requires there { 4 * to < length places.old }
     requires known { length places.old ≤ length speeds.now }
     requires one_each { length before.old ≡ length places.old }
-    requires swept { (first : List PlaceValue) × IsSweptTo first speeds.now (4 * from) places.old before.old enters × AreFew first speeds.now whole (4 * from) (4 * to) }
+    requires swept { (first : List PlaceValue) × IsSweptTo first speeds.now (4 * from) places.old before.old enters × AreFew first speeds.now all_slow (4 * from) (4 * to) }
     ensures { (first : List PlaceValue) → IsSweptTo first speeds.now (4 * from) places.old before.old enters →
         IsSweptTo first speeds.now (4 * to) places.new before.new result }
 {
     let mut flow = enters;
     for m in from..to {
-        flow = slowed_four(places, speeds, before, 4 * m, whole, flow);
+        flow = slowed_four(places, speeds, before, 4 * m, all_slow, flow);
     }
     flow
 }
@@ -98,20 +98,20 @@ fn slowed_four(
     speeds: &[SpeedFactor],
     before: &mut [u64],
     p: usize,
-    whole: bool,
+    all_slow: bool,
     enters: u64,
 ) -> u64
     requires there { p + 4 < length places.old }
     requires known { length places.old ≤ length speeds.now }
     requires one_each { length before.old ≡ length places.old }
-    requires swept { (first : List PlaceValue) × IsSweptTo first speeds.now p places.old before.old enters × AreFew first speeds.now whole p (p + 4) }
+    requires swept { (first : List PlaceValue) × IsSweptTo first speeds.now p places.old before.old enters × AreFew first speeds.now all_slow p (p + 4) }
     ensures { (first : List PlaceValue) → IsSweptTo first speeds.now p places.old before.old enters →
         IsSweptTo first speeds.now (p + 4) places.new before.new result }
 {
-    let second = slowed_one(places, speeds, before, p, whole, enters);
-    let third = slowed_one(places, speeds, before, p + 1, whole, second);
-    let fourth = slowed_one(places, speeds, before, p + 2, whole, third);
-    slowed_one(places, speeds, before, p + 3, whole, fourth)
+    let second = slowed_one(places, speeds, before, p, all_slow, enters);
+    let third = slowed_one(places, speeds, before, p + 1, all_slow, second);
+    let fourth = slowed_one(places, speeds, before, p + 2, all_slow, third);
+    slowed_one(places, speeds, before, p + 3, all_slow, fourth)
 }
 
 // Takes the place of this number, which so much enters, and gives what leaves it for the next one.
@@ -121,17 +121,17 @@ fn slowed_one(
     speeds: &[SpeedFactor],
     before: &mut [u64],
     p: usize,
-    whole: bool,
+    all_slow: bool,
     enters: u64,
 ) -> u64
     requires there { p + 1 < length places.old }
     requires known { length places.old ≤ length speeds.now }
     requires one_each { length before.old ≡ length places.old }
-    requires swept { (first : List PlaceValue) × IsSweptTo first speeds.now p places.old before.old enters × AreFew first speeds.now whole p (p + 1) }
+    requires swept { (first : List PlaceValue) × IsSweptTo first speeds.now p places.old before.old enters × AreFew first speeds.now all_slow p (p + 1) }
     ensures { (first : List PlaceValue) → IsSweptTo first speeds.now p places.old before.old enters →
         IsSweptTo first speeds.now (p + 1) places.new before.new result }
 {
-    let leaves = carried_slowed(&places[p], &places[p + 1], speeds[p], whole);
+    let leaves = carried_slowed(&places[p], &places[p + 1], speeds[p], all_slow);
     let held = places[p].n;
     places[p].step(enters, leaves);
     before[p] = held;
@@ -140,13 +140,13 @@ fn slowed_one(
 
 // What the link out of a place carries at this speed.
 #[inline(always)]
-fn carried_slowed(place: &Place, next: &Place, speed: SpeedFactor, whole: bool) -> u64
-    requires few { (whole ≡ false → speed ≢ (1, 1)) → place.now.n < 2 ^ 53 }
+fn carried_slowed(place: &Place, next: &Place, speed: SpeedFactor, all_slow: bool) -> u64
+    requires few { (all_slow ≡ false → speed ≢ (1, 1)) → place.now.n < 2 ^ 53 }
     requires fits { next.now.n ≤ next.now.space.storage }
     ensures flow { result ≡ carried (slowed_place place.now speed) next.now }
     ensures held { result ≤ place.now.n }
     ensures fits { next.now.n + result < 2 ^ 64 }
 {
-    let sent = place.most.min(speed.arriving_of_few(place.n, whole));
+    let sent = place.most.min(speed.arriving_of_few(place.n, all_slow));
     sent.min(next.space.let_in(next.n))
 }
