@@ -124,7 +124,7 @@ speeds-renewed net cells t placed new has is =
     let same = λ (p : ℕ). listed-same placed.speed_timelines new.timelines p is.as_before in
     record {
       there = rw is.speeds_long is.speeds_there;
-      known = λ p within. rw is.speeds_long (has.known p (rw is.speeds_long at within));
+      known = λ some. rw is.speeds_long (has.known (rw is.speeds_long at some));
       values = λ k d within s.
           let inside : k < length placed.speed_timelines = omega (arith, within, is.as_before.long) in
           let one = is.as_before.each k d inside in

@@ -237,7 +237,7 @@ can-sweep net t n cells halo connectors placed put new sound before has bounds s
       slow = is_slow net cells;
       laid = rw same has.zones;
       free = λ p within free. speed-free net cells new.timelines new.speeds t new.until p now.speeds free;
-      known = λ p within. rw same (now.speeds.known p within);
+      known = λ some. rw same (now.speeds.known some);
       few = λ p within slow.
           let i : ℕ = slice_index cells p in
           let is = ready net t n cells halo connectors placed put p sound before has bounds seen (omega (arith, within, same)) in

@@ -1,5 +1,5 @@
 -- The speeds in a region's cells, by their places.
-use Rattle.std.specs.Prelude.{◌≡◌, ◌==◌, ◌&&◌, ℕ, ◌-◌, ◌/◌, ◌^◌, ◌<◌, ◌≤◌, All, Bool, true, false, List, length, map, min, not, slice_index, slice_index_or}
+use Rattle.std.specs.Prelude.{◌≡◌, ◌≢◌, ◌==◌, ◌&&◌, ℕ, ◌-◌, ◌/◌, ◌^◌, ◌<◌, ◌≤◌, All, Bool, true, false, List, length, map, min, not, slice_index, slice_index_or}
 use Rattle.std.specs.List.{list_any, range_with_len}
 use Rattle.signal_plan.specs.Speeds.{arriving, has_speeds, speed_at}
 use Rattle.network_file.specs.Cells.{is_exit_at}
@@ -23,13 +23,14 @@ slowed_place place speed = record place { most = min place.most (arriving speed 
 unfoldable pub at_speeds : List Place → (speeds : List (ℕ × ℕ)) → List Place
 at_speeds places speeds = map (λ p. slowed_place (place_at places p) (ratio_at speeds p)) (range_with_len 0 (length places))
 
--- zones outside of which in the whole fours before the last place all speeds are 1/1; of each place its speed is known, or of none,
--- and where it isn't 1/1 its factor will do
+-- places that can be swept by these zones, which lie where places are slow, in the whole fours before the last place: a place that isn't slow
+-- has its road's own speed, one that is slow holds so little that a factor will do for its speed, and a list of speeds that isn't empty
+-- has one for each place
 pub record CanSweep (places : List Place) (speeds : List (ℕ × ℕ)) (zones : List SpeedZone) : Type 0 where
   pub slow : ℕ → Bool
   pub laid : AreZones slow ((length places - 1) / 4) zones
   pub free : (p : ℕ) → p < length places → slow p ≡ false → ratio_at speeds p ≡ (1, 1)
-  pub known : (p : ℕ) → p < length speeds → length places ≤ length speeds
+  pub known : length speeds ≢ 0 → length places ≤ length speeds
   pub few : (p : ℕ) → p < length places → slow p ≡ true → (place_at places p).n < 2 ^ 53
 
 -- one of these speeds is that of the place
@@ -74,7 +75,7 @@ pub record IsSpeedOpened (net : Network) (cells : List ℕ) (one : FollowedSpeed
 -- the speeds of these cells, all or none, as step t begins, which are followed where a cell has speed records, and stay before a step
 pub record AreSpeedsOf (net : Network) (cells : List ℕ) (timelines : List FollowedSpeed) (speeds : List (ℕ × ℕ)) (t until : ℕ) : Type 0 where
   pub there : All (IsSpeedThere (length speeds) t) timelines
-  pub known : (p : ℕ) → p < length speeds → length cells ≤ length speeds
+  pub known : length speeds ≢ 0 → length cells ≤ length speeds
   pub values : All (λ one. (s : ℕ) → value_at one.timeline s ≡ cell_speed net cells one.place s) timelines
   pub slow : All (λ one. is_slow net cells one.place ≡ true) timelines
   pub whole : (p : ℕ) → p < length cells → is_slow net cells p ≡ true → is_listed timelines p ≡ true

@@ -18,6 +18,7 @@ pub record IsSweptTo (first : List Place) (speeds : List (ℕ × ℕ)) (p : ℕ)
 abbrev pub IsFree : (speeds : List (ℕ × ℕ)) → (from to : ℕ) → Type 0
 IsFree speeds from to = (p : ℕ) → from ≤ p → p < to → ratio_at speeds p ≡ (1, 1)
 
--- these places hold so little that the factors of speeds will do: all places of a zone that is all slow, else those whose speed isn't the road's own
+-- these places hold so little that the factors of speeds will do: all of them in a zone that is all slow, else those whose speed isn't
+-- the road's own
 abbrev pub AreFew : List Place → (speeds : List (ℕ × ℕ)) → (all_slow : Bool) → (from to : ℕ) → Type 0
 AreFew places speeds all_slow from to = (p : ℕ) → from ≤ p → p < to → (all_slow ≡ false → ratio_at speeds p ≢ (1, 1)) → (place_at places p).n < 2 ^ 53
