@@ -19,7 +19,7 @@ use Rattle.region_body.specs.FollowedLinks.{AreFollowed, IsLinkThere}
 use Rattle.region_body.specs.declared.followed_link.FollowedLink.{FollowedLink}
 use Rattle.region_body.specs.Chains.{AreDistinct, is_chained, is_joined, is_link, most_out, odd_ones}
 use Rattle.region_body.specs.Joining.{Extends, IsAt}
-use Rattle.region_body.specs.Carrying.{IsConnected}
+use Rattle.region_body.specs.Carrying.{IsConnectorAmong}
 use Rattle.region_body.specs.declared.followed_connector.FollowedConnector.{FollowedConnector}
 use Rattle.region_body.proofs.Links.{link-is}
 
@@ -155,7 +155,7 @@ pub record AreJoined (net : Network) (t : ℕ) (cells halo connectors : List ℕ
   pub joined : All (λ link. is_joined net cells connectors link.place ≡ true) links
   pub followed : AreFollowed (most_out net cells connectors) places links t
   pub numbers : map (λ followed. followed.number) others ≡ odd_ones net cells connectors
-  pub connected : All (IsConnected net cells halo) others
+  pub connected : All (IsConnectorAmong net cells halo) others
   pub come : All (λ followed. followed.timeline.step ≤ t) others
 
 pub joined-none : (net : Network) (t : ℕ) (cells halo connectors : List ℕ) (places : List Place) → ((p : ℕ) → (place_at places p).most ≡ 0) →
@@ -199,7 +199,7 @@ joined-chained net t cells halo connectors first places after links later others
 -- another more
 pub joined-odd : (net : Network) (t : ℕ) (cells halo connectors : List ℕ) (first places : List Place) (links : List FollowedLink) (others : List FollowedConnector) (followed : FollowedConnector)
     (j : ℕ) → j < length connectors → is_chained cells (connector_at net.connectors (get_or connectors j 0)) ≡ false →
-    followed.number ≡ get_or connectors j 0 → IsConnected net cells halo followed → followed.timeline.step ≡ 0 →
+    followed.number ≡ get_or connectors j 0 → IsConnectorAmong net cells halo followed → followed.timeline.step ≡ 0 →
     AreJoined net t cells halo (take j connectors) first places links others →
     AreJoined net t cells halo (take (j + 1) connectors) first places links (others ++ followed ∷ [])
 joined-odd net t cells halo connectors first places links others followed j within odd number connected step has = record {
@@ -212,6 +212,6 @@ joined-odd net t cells halo connectors first places links others followed j with
       (λ q s. unchained-more net cells connectors j q s within odd) has.followed;
   numbers = map-append (λ followed. followed.number) others (followed ∷ []) ∙ ap (λ list. list ++ followed.number ∷ []) has.numbers
       ∙ ap (λ k. odd_ones net cells (take j connectors) ++ k ∷ []) number ∙ sym (odd-more net cells connectors j false within odd);
-  connected = All-push (IsConnected net cells halo) others followed has.connected connected;
+  connected = All-push (IsConnectorAmong net cells halo) others followed has.connected connected;
   come = All-push (λ followed. followed.timeline.step ≤ t) others followed has.come (omega arith);
 }

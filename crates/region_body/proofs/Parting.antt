@@ -16,13 +16,13 @@ use Rattle.region_body.specs.declared.place.Place.{Place}
 use Rattle.signal_plan.proofs.Sums.{sum_by-same}
 use Rattle.region_cut.specs.ConnectorCells.{three_cells}
 use Rattle.connector_flow.specs.Following.{rule_of}
-use Rattle.region_body.specs.Carrying.{CanCarry, IsConnected, brought, brought_by, carried_of, taken, taken_by, three_held}
+use Rattle.region_body.specs.Carrying.{CanCarry, IsConnectorAmong, brought, brought_by, carried_of, taken, taken_by, three_held}
 use Rattle.region_body.specs.CellRefs.{AreRefsOf, IsRefOf, IsWithin, held_in, parts_at, ref_at}
-use Rattle.region_body.specs.Moves.{AreConnected, ArePartsOf, IsScene, IsSeen, in_by, out_by}
+use Rattle.region_body.specs.Moves.{AreConnectorsAmong, ArePartsOf, IsScene, IsSeen, in_by, out_by}
 use Rattle.region_body.specs.declared.followed_connector.FollowedConnector.{FollowedConnector}
 
 -- so many parts of a cell are those at its place
-part-at : (net : Network) (others : List FollowedConnector) (cells halo : List ℕ) (i p parts : ℕ) (cell : CellRef) → AreConnected net cells halo others → p < length cells → IsRefOf cells halo i cell →
+part-at : (net : Network) (others : List FollowedConnector) (cells halo : List ℕ) (i p parts : ℕ) (cell : CellRef) → AreConnectorsAmong net cells halo others → p < length cells → IsRefOf cells halo i cell →
     parts_at cell parts p ≡ (if slice_index cells p == i then parts else 0)
 part-at net others cells halo i p parts (Own own) apart within found = elim (cases_eq p own) [
   | inl same ↦
@@ -40,7 +40,7 @@ part-at net others cells halo i p parts (Halo j) apart within found =
     rw away refl
 
 -- what a connector takes from a place it takes from its cell, and what it brings to it it brings to its cell
-taken-from : (net : Network) (others : List FollowedConnector) (cells halo : List ℕ) (connector : Connector) (followed : FollowedConnector) (flow : Flow) (p : ℕ) → AreConnected net cells halo others → p < length cells →
+taken-from : (net : Network) (others : List FollowedConnector) (cells halo : List ℕ) (connector : Connector) (followed : FollowedConnector) (flow : Flow) (p : ℕ) → AreConnectorsAmong net cells halo others → p < length cells →
     AreRefsOf cells halo connector followed.cells → taken_by (rule_of connector) followed flow p ≡ leaving (slice_index cells p) connector flow
 taken-from net others cells halo (Link up down) followed flow p apart within refs =
     let one = part-at net others cells halo up p flow.out1 (ref_at followed.cells 0) apart within (refs 0 (omega arith)) in omega arith
@@ -50,7 +50,7 @@ taken-from net others cells halo (Merge up1 up2 down p1 p2) followed flow p apar
 taken-from net others cells halo (Diverge up down1 down2 b1 b2) followed flow p apart within refs =
     let one = part-at net others cells halo up p flow.out1 (ref_at followed.cells 0) apart within (refs 0 (omega arith)) in omega arith
 
-brought-to : (net : Network) (others : List FollowedConnector) (cells halo : List ℕ) (connector : Connector) (followed : FollowedConnector) (flow : Flow) (p : ℕ) → AreConnected net cells halo others → p < length cells →
+brought-to : (net : Network) (others : List FollowedConnector) (cells halo : List ℕ) (connector : Connector) (followed : FollowedConnector) (flow : Flow) (p : ℕ) → AreConnectorsAmong net cells halo others → p < length cells →
     AreRefsOf cells halo connector followed.cells → brought_by (rule_of connector) followed flow p ≡ entering (slice_index cells p) connector flow
 brought-to net others cells halo (Link up down) followed flow p apart within refs =
     let one = part-at net others cells halo down p flow.in1 (ref_at followed.cells 1) apart within (refs 1 (omega arith)) in omega arith
@@ -76,7 +76,7 @@ flow_between-three net t (Diverge up down1 down2 b1 b2) n = refl
 
 -- so do its cells
 cells-held : (net : Network) (t : ℕ) (n : ℕ → ℕ) (cells halo : List ℕ) (places : List Place) (put : List (Option ℕ)) (followed : FollowedConnector) →
-    IsSeen n cells halo places put → IsConnected net cells halo followed →
+    IsSeen n cells halo places put → IsConnectorAmong net cells halo followed →
     flow_between net t (connector_at net.connectors followed.number) (three_held followed (held_in places put)) ≡ flow_of net t n (connector_at net.connectors followed.number)
 cells-held net t n cells halo places put followed seen connected =
     let connector : Connector = connector_at net.connectors followed.number in
@@ -125,7 +125,7 @@ three_in_bounds net t (Diverge up down1 down2 b1 b2) a b c first second third = 
 
 -- what it carries is its flow in the network
 pub carried-is : (net : Network) (t : ℕ) (n : ℕ → ℕ) (cells halo : List ℕ) (others : List FollowedConnector) (places : List Place) (put : List (Option ℕ)) (followed : FollowedConnector) →
-    IsScene net t cells halo others places put → IsSeen n cells halo places put → IsConnected net cells halo followed →
+    IsScene net t cells halo others places put → IsSeen n cells halo places put → IsConnectorAmong net cells halo followed →
     carried_of t followed (held_in places put) ≡ flow_of net t n (connector_at net.connectors followed.number)
 carried-is net t n cells halo others places put followed scene seen connected =
     let connector : Connector = connector_at net.connectors followed.number in
@@ -136,12 +136,12 @@ carried-is net t n cells halo others places put followed scene seen connected =
     ∙ cells-held net t n cells halo places put followed seen connected
 
 pub refs-there : (net : Network) (cells halo : List ℕ) (places : List Place) (put : List (Option ℕ)) (followed : FollowedConnector) → length places ≡ length cells → length put ≡ length halo →
-    IsConnected net cells halo followed → (m : ℕ) → m < 3 → IsWithin (length places) put (ref_at followed.cells m)
+    IsConnectorAmong net cells halo followed → (m : ℕ) → m < 3 → IsWithin (length places) put (ref_at followed.cells m)
 refs-there net cells halo places put followed place_each put_each connected m few =
     is-within cells halo places put (slice_index (three_cells (connector_at net.connectors followed.number)) m) (ref_at followed.cells m) place_each put_each (connected.refs m few)
 
 pub can_carry : (net : Network) (t : ℕ) (cells halo : List ℕ) (others : List FollowedConnector) (places : List Place) (put : List (Option ℕ)) (followed : FollowedConnector) →
-    IsScene net t cells halo others places put → IsConnected net cells halo followed → followed.timeline.step ≤ t → t < followed.timeline.until → CanCarry t followed places put
+    IsScene net t cells halo others places put → IsConnectorAmong net cells halo followed → followed.timeline.step ≤ t → t < followed.timeline.until → CanCarry t followed places put
 can_carry net t cells halo others places put followed scene connected step until =
     record {
       refs = refs-there net cells halo places put followed scene.place_each scene.put_each connected;
@@ -155,7 +155,7 @@ carried-same t held other followed same = rw (same (ref_at followed.cells 0), sa
 -- what it moves is what it moves in the network
 moves-as : (net : Network) (t : ℕ) (n : ℕ → ℕ) (cells halo : List ℕ) (others : List FollowedConnector) (places : List Place) (put : List (Option ℕ)) (held : CellRef → ℕ) (p : ℕ) (followed : FollowedConnector) →
     IsScene net t cells halo others places put → IsSeen n cells halo places put → ((cell : CellRef) → held cell ≡ held_in places put cell) →
-    p < length cells → IsConnected net cells halo followed →
+    p < length cells → IsConnectorAmong net cells halo followed →
     (taken t held p followed ≡ out_by net t n (slice_index cells p) followed.number) × (brought t held p followed ≡ in_by net t n (slice_index cells p) followed.number)
 unfolding taken brought
 moves-as net t n cells halo others places put held p followed scene seen same within connected =
@@ -174,9 +174,9 @@ pub parts-are : (net : Network) (t : ℕ) (n : ℕ → ℕ) (cells halo : List �
     ArePartsOf net t n cells others (λ p. sum_by (taken t held p) others) (λ p. sum_by (brought t held p) others)
 parts-are net t n cells halo others places put held scene seen same = record {
   taken = λ p within.
-      sum_by-same (IsConnected net cells halo) (taken t held p) (λ followed. out_by net t n (slice_index cells p) followed.number) others
+      sum_by-same (IsConnectorAmong net cells halo) (taken t held p) (λ followed. out_by net t n (slice_index cells p) followed.number) others
       (λ followed connected. (moves-as net t n cells halo others places put held p followed scene seen same within connected).0) scene.connected.each;
   brought = λ p within.
-      sum_by-same (IsConnected net cells halo) (brought t held p) (λ followed. in_by net t n (slice_index cells p) followed.number) others
+      sum_by-same (IsConnectorAmong net cells halo) (brought t held p) (λ followed. in_by net t n (slice_index cells p) followed.number) others
       (λ followed connected. (moves-as net t n cells halo others places put held p followed scene seen same within connected).1) scene.connected.each;
 }

@@ -13,8 +13,8 @@ use Rattle.region_body.specs.declared.cell_ref.CellRef.{CellRef}
 use Rattle.region_body.specs.declared.place.Place.{Place}
 use Rattle.region_body.specs.declared.followed_connector.FollowedConnector.{FollowedConnector}
 
--- the connector is one of the network: its cells and what it carries are as there
-pub record IsConnected (net : Network) (cells halo : List ℕ) (connector : FollowedConnector) : Type 0 where
+-- the connector is one of the network: it finds its cells among these and those of the halo, and carries what the network has it carry
+pub record IsConnectorAmong (net : Network) (cells halo : List ℕ) (connector : FollowedConnector) : Type 0 where
   pub there : connector.number < length net.connectors
   pub refs : AreRefsOf cells halo (connector_at net.connectors connector.number) connector.cells
   pub timeline : IsTimelineOf net (connector_at net.connectors connector.number) connector.timeline

@@ -11,7 +11,7 @@ use Rattle.region_body.specs.Chains.{AreDistinct}
 use Rattle.region_body.specs.CellRefs.{put_at}
 use Rattle.region_body.specs.Places.{place_at}
 use Rattle.region_body.specs.declared.place.Place.{Place}
-use Rattle.region_body.specs.Carrying.{IsConnected}
+use Rattle.region_body.specs.Carrying.{IsConnectorAmong}
 use Rattle.region_body.specs.declared.followed_connector.FollowedConnector.{FollowedConnector}
 
 -- what connector k takes from cell i in step t, where the cells hold n
@@ -31,11 +31,11 @@ pub record IsSeen (n : ℕ → ℕ) (cells halo : List ℕ) (places : List Place
   pub own : (p : ℕ) → p < length cells → n (slice_index cells p) ≡ (place_at places p).n
   pub around : (j : ℕ) → j < length halo → n (slice_index halo j) ≡ put_at put j
 
--- connectors of a region: no cell of its halo is its own
-pub record AreConnected (net : Network) (cells halo : List ℕ) (connectors : List FollowedConnector) : Type 0 where
+-- so are these, where no cell stands at two places and none of the halo is one of the region's own
+pub record AreConnectorsAmong (net : Network) (cells halo : List ℕ) (connectors : List FollowedConnector) : Type 0 where
   pub distinct : AreDistinct cells
   pub apart : (p j : ℕ) → p < length cells → j < length halo → slice_index cells p ≢ slice_index halo j
-  pub each : All (IsConnected net cells halo) connectors
+  pub each : All (IsConnectorAmong net cells halo) connectors
 
 -- from each place goes what these connectors take from its cell, and to it comes what they bring
 pub record ArePartsOf (net : Network) (t : ℕ) (n : ℕ → ℕ) (cells : List ℕ) (connectors : List FollowedConnector) (outs ins : ℕ → ℕ) : Type 0 where
@@ -46,7 +46,7 @@ pub record ArePartsOf (net : Network) (t : ℕ) (n : ℕ → ℕ) (cells : List 
 pub record IsScene (net : Network) (t : ℕ) (cells halo : List ℕ) (connectors : List FollowedConnector) (places : List Place) (put : List (Option ℕ)) : Type 0 where
   pub sound : IsNetwork net
   pub before : t < net.steps
-  pub connected : AreConnected net cells halo connectors
+  pub connected : AreConnectorsAmong net cells halo connectors
   pub place_each : length places ≡ length cells
   pub put_each : length put ≡ length halo
   pub own : (p : ℕ) → p < length cells → IsHeldInBounds net t (slice_index cells p) (place_at places p).n

@@ -17,7 +17,7 @@ use Rattle.region_body.specs.FollowedLinks.{AreFollowed, IsLinkThere}
 use Rattle.region_body.specs.declared.followed_link.FollowedLink.{FollowedLink}
 use Rattle.region_body.specs.Chains.{AreAround, most_out, odd_ones}
 use Rattle.region_body.specs.Joining.{AreKnown}
-use Rattle.region_body.specs.Moves.{AreConnected, IsSeen}
+use Rattle.region_body.specs.Moves.{AreConnectorsAmong, IsSeen}
 use Rattle.region_body.specs.Pausing.{IsPauseOf}
 use Rattle.region_body.specs.Rows.{IsOf, constants_at, rows_of}
 use Rattle.region_body.specs.SpeedZones.{AreZones}
@@ -54,7 +54,7 @@ pub record PlacedCells : Type 0 where
 pub record ArePlaced (net : Network) (cells halo connectors : List ℕ) (t : ℕ) (placed : PlacedCells) : Type 0 where
   pub around : AreAround net cells connectors
   pub known : All (λ k. AreKnown cells halo (connector_at net.connectors k)) connectors
-  pub connected : AreConnected net cells halo placed.connectors
+  pub connected : AreConnectorsAmong net cells halo placed.connectors
   pub numbers : map (λ connector. connector.number) placed.connectors ≡ odd_ones net cells connectors
   pub one_each : length placed.places ≡ length cells
   pub constants_each : length placed.constants ≡ length cells

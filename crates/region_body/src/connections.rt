@@ -4,7 +4,7 @@ ghost use Rattle.network_file.specs.Connectors.{connector_at};
 ghost use Rattle.chain_order.specs.Order.{IsOrder};
 ghost use Rattle.region_body.specs.Places.{place_at};
 ghost use Rattle.region_body.specs.FollowedLinks.{AreFollowed, IsLinkThere};
-ghost use Rattle.region_body.specs.Carrying.{IsConnected};
+ghost use Rattle.region_body.specs.Carrying.{IsConnectorAmong};
 ghost use Rattle.region_body.specs.Chains.{AreDistinct, most_out, odd_ones};
 ghost use Rattle.region_body.specs.Joining.{AreKnown};
 
@@ -21,7 +21,9 @@ use std::alloc::Global;
 /// How a region's cells hang together: the links to neighbouring places whose most changes, and the other connectors.
 #[derive(Drop)]
 pub(crate) struct Connections {
+    /// The links from a place to the next whose most changes with the steps.
     pub(crate) links: Vec<FollowedLink>,
+    /// The connectors that are no link from a place to the next.
     pub(crate) connectors: Vec<FollowedConnector>,
 }
 
@@ -49,7 +51,7 @@ pub(crate) fn join_places(
     ensures links { IfOk result (λ connections. All (IsLinkThere (length region.now.order.now.placed) t) connections.links.items) }
     ensures followed { IfOk result (λ connections. AreFollowed (most_out net.now region.now.order.now.placed region.now.connectors.now) places.new connections.links.items t) }
     ensures numbers { IfOk result (λ connections. map (λ connector. connector.number) connections.connectors.items ≡ odd_ones net.now region.now.order.now.placed region.now.connectors.now) }
-    ensures connected { IfOk result (λ connections. All (IsConnected net.now region.now.order.now.placed region.now.halo.now) connections.connectors.items) }
+    ensures connected { IfOk result (λ connections. All (IsConnectorAmong net.now region.now.order.now.placed region.now.halo.now) connections.connectors.items) }
     ensures come { IfOk result (λ connections. All (λ connector. connector.timeline.step ≤ t) connections.connectors.items) }
 {
     let _steps = net.steps;
