@@ -1,4 +1,4 @@
--- What a connector takes from a place and brings to it, by each rule.
+-- What a connector takes from a cell and brings to it, by each rule.
 use Rattle.std.proofs.Common.{◌≡◌, ℕ, ◌+◌, [], ◌∷◌, refl, sym, ap, ◌∙◌}
 use Rattle.std.specs.Prelude.{Option, Some, None}
 use Rattle.connector_flow.specs.Flows.{ConnectorValues, carried_by, flow_at, limits_of}

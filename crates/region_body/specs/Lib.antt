@@ -1,4 +1,4 @@
-pub mod Places
+pub mod CellStates
 pub mod SpeedZones
 pub mod Speeds
 pub mod Sweeping

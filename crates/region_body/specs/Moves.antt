@@ -9,8 +9,8 @@ use Rattle.flow_model.specs.Bounds.{IsHeldInBounds}
 use Rattle.flow_model.specs.Flows.{entering, flow_of, leaving}
 use Rattle.region_body.specs.Chains.{AreDistinct}
 use Rattle.region_body.specs.CellRefs.{put_at}
-use Rattle.region_body.specs.Places.{place_at}
-use Rattle.region_body.specs.declared.place.Place.{Place}
+use Rattle.region_body.specs.CellStates.{cell_state_at}
+use Rattle.region_body.specs.declared.cell_state.CellState.{CellState}
 use Rattle.region_body.specs.Carrying.{IsConnectorAmong}
 use Rattle.region_body.specs.declared.followed_connector.FollowedConnector.{FollowedConnector}
 
@@ -26,9 +26,9 @@ in_by net t n i k = entering i (connector_at net.connectors k) (flow_of net t n 
 abbrev pub demand_for : PlanRecords → (t : ℕ) → (cells : List ℕ) → (p q : ℕ) → ℕ
 demand_for plan t cells p q = if q == p then demand_at plan (slice_index cells q) t else 0
 
--- the cells hold n: those of the region by their places, those of its halo by what was put there
-pub record IsSeen (n : ℕ → ℕ) (cells halo : List ℕ) (places : List Place) (put : List (Option ℕ)) : Type 0 where
-  pub own : (p : ℕ) → p < length cells → n (slice_index cells p) ≡ (place_at places p).n
+-- the cells hold n: those of the region by their states, those of its halo by what was put there
+pub record IsSeen (n : ℕ → ℕ) (cells halo : List ℕ) (states : List CellState) (put : List (Option ℕ)) : Type 0 where
+  pub own : (p : ℕ) → p < length cells → n (slice_index cells p) ≡ (cell_state_at states p).n
   pub around : (j : ℕ) → j < length halo → n (slice_index halo j) ≡ put_at put j
 
 -- so are these, where no cell stands at two places and none of the halo is one of the region's own
@@ -43,11 +43,11 @@ pub record ArePartsOf (net : Network) (t : ℕ) (n : ℕ → ℕ) (cells : List 
   pub brought : (p : ℕ) → p < length cells → ins p ≡ sum_by (λ connector. in_by net t n (slice_index cells p) connector.number) connectors
 
 -- the region's cells and those of its halo, which are others, with an occupancy in bounds for each, and its connectors
-pub record IsScene (net : Network) (t : ℕ) (cells halo : List ℕ) (connectors : List FollowedConnector) (places : List Place) (put : List (Option ℕ)) : Type 0 where
+pub record IsScene (net : Network) (t : ℕ) (cells halo : List ℕ) (connectors : List FollowedConnector) (states : List CellState) (put : List (Option ℕ)) : Type 0 where
   pub sound : IsNetwork net
   pub before : t < net.steps
   pub connected : AreConnectorsAmong net cells halo connectors
-  pub place_each : length places ≡ length cells
+  pub state_each : length states ≡ length cells
   pub put_each : length put ≡ length halo
-  pub own : (p : ℕ) → p < length cells → IsHeldInBounds net t (slice_index cells p) (place_at places p).n
+  pub own : (p : ℕ) → p < length cells → IsHeldInBounds net t (slice_index cells p) (cell_state_at states p).n
   pub around : (j : ℕ) → j < length halo → IsHeldInBounds net t (slice_index halo j) (put_at put j)

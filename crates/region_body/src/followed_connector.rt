@@ -13,7 +13,7 @@ use no_memory::NoMemory;
 use signal_plan::MOST_STEPS;
 use std::alloc::Global;
 
-/// A connector that isn't a link from a place to the next.
+/// A connector that isn't a link from a cell to the next.
 #[derive(Drop)]
 pub(crate) struct FollowedConnector {
     /// Its number in the network.

@@ -1,6 +1,6 @@
 use timelines::Timeline;
 
-/// A gate among the places.
+/// A gate among the cells, and where it stands.
 #[derive(Drop)]
 pub(crate) struct GatePlace {
     /// The number of its place.

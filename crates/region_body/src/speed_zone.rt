@@ -7,7 +7,7 @@ use network_file::Net;
 use no_memory::NoMemory;
 use std::alloc::Global;
 
-/// Fours of places side by side, each with a cell that has speed records: from one up to another. The `m`-th four begins at
+/// Fours of cells side by side, each with a cell that has speed records: from one up to another. The `m`-th four begins at
 /// place `4 * m`.
 #[derive(Clone, Copy)]
 pub(crate) struct SpeedZone {
@@ -15,7 +15,7 @@ pub(crate) struct SpeedZone {
     pub(crate) from: usize,
     /// The one behind the last.
     pub(crate) to: usize,
-    /// Whether each place of the zone has speed records.
+    /// Whether each cell of the zone has speed records.
     pub(crate) all_slow: bool,
 }
 
@@ -36,7 +36,11 @@ pub(crate) fn zones_of(alloc: Global, net: &Net, cells: &[u32]) -> Result<Vec<Sp
         let all = is_all_slow_four(net, cells, m);
         if !alike(some, all, slow, all_slow) {
             if slow {
-                zones.push(SpeedZone { from, to: m, all_slow })?;
+                zones.push(SpeedZone {
+                    from,
+                    to: m,
+                    all_slow,
+                })?;
             }
             from = m;
             slow = some;
@@ -53,7 +57,7 @@ pub(crate) fn zones_of(alloc: Global, net: &Net, cells: &[u32]) -> Result<Vec<Sp
     Ok(zones)
 }
 
-// Whether a four is like those before: both have a slow place or neither does, and all places of both are slow or not.
+// Whether a four is like those before: both have a slow cell or neither does, and all cells of both are slow or not.
 fn alike(some: bool, all: bool, slow: bool, all_slow: bool) -> bool
     ensures { IsTrue result ↔ (some ≡ slow) × (all ≡ all_slow) }
 {

@@ -1,8 +1,8 @@
 use Rattle.std.proofs.Common.{◌≡◌, ℕ, ap, ◌∙◌, arith}
-use Rattle.region_body.specs.Places.{place_at, with_entered}
+use Rattle.region_body.specs.CellStates.{cell_state_at, with_entered}
 use Rattle.region_body.specs.Carrying.{brought, taken}
 use Rattle.region_body.specs.CellRefs.{held_before, parts_at, ref_at}
-use Rattle.region_body.proofs.MovedPlaces.{can-bring, can-take}
+use Rattle.region_body.proofs.MovedStates.{can-bring, can-take}
 use Rattle.region_body.proofs.Ruled.{link-moves}
 use Rattle.region_body.proofs.carry.link.Goals.{After-flow-flow}
 use Rattle.region_body.proofs.carry.link.Goals as goal
@@ -18,7 +18,7 @@ pub take-requires-clause-can : goal.take-requires-clause-can
 take-requires-clause-can c = λ p within.
     let is = moves (goal.at.take-requires-clause-can c).After-flow-flow p in
     let out = is.0 in
-    can-take (place_at c.args.places.now p) (parts_at (ref_at c.args.connector.now.cells 0) c.flow-flow.result.out1 p) _ _ (c.requires.can p within) (omega (arith, out))
+    can-take (cell_state_at c.args.states.now p) (parts_at (ref_at c.args.connector.now.cells 0) c.flow-flow.result.out1 p) _ _ (c.requires.can p within) (omega (arith, out))
 
 pub bring-requires-clause-can : goal.bring-requires-clause-can
 bring-requires-clause-can c = λ p within.
@@ -28,7 +28,7 @@ bring-requires-clause-can c = λ p within.
     let then_is = c.take.ensures p (omega arith) in
     let n = ap (λ one. one.n) then_is in
     let gone = ap (λ one. one.gone) then_is in
-    can-bring (place_at c.args.places.now p) (place_at c.take.new.places p) (parts_at (ref_at c.args.connector.now.cells 1) c.flow-flow.result.in1 p) _ _ (omega (arith, n, into))
+    can-bring (cell_state_at c.args.states.now p) (cell_state_at c.take.new.states p) (parts_at (ref_at c.args.connector.now.cells 1) c.flow-flow.result.in1 p) _ _ (omega (arith, n, into))
     (omega (arith, gone, out)) (c.requires.can p (omega arith))
 
 pub returns : goal.returns

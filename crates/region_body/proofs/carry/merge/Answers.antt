@@ -1,8 +1,8 @@
 use Rattle.std.proofs.Common.{◌≡◌, ◌+◌, ℕ, ap, ◌∙◌, arith}
-use Rattle.region_body.specs.Places.{place_at, with_entered, with_left}
+use Rattle.region_body.specs.CellStates.{cell_state_at, with_entered, with_left}
 use Rattle.region_body.specs.Carrying.{brought, taken}
 use Rattle.region_body.specs.CellRefs.{held_before, parts_at, ref_at}
-use Rattle.region_body.proofs.MovedPlaces.{can-bring, can-take, can-take-more, left-twice}
+use Rattle.region_body.proofs.MovedStates.{can-bring, can-take, can-take-more, left-twice}
 use Rattle.region_body.proofs.Ruled.{merge-moves}
 use Rattle.region_body.proofs.carry.merge.Goals.{After-flow-flow}
 use Rattle.region_body.proofs.carry.merge.Goals as goal
@@ -19,13 +19,13 @@ pub take-requires-clause-can : goal.take-requires-clause-can
 take-requires-clause-can c = λ p within.
     let is = moves (goal.at.take-requires-clause-can c).After-flow-flow p in
     let out = is.0 in
-    can-take (place_at c.args.places.now p) (parts_at (ref_at c.args.connector.now.cells 0) c.flow-flow.result.out1 p) _ _ (c.requires.can p within) (omega (arith, out))
+    can-take (cell_state_at c.args.states.now p) (parts_at (ref_at c.args.connector.now.cells 0) c.flow-flow.result.out1 p) _ _ (c.requires.can p within) (omega (arith, out))
 
 pub take-requires-2-clause-can : goal.take-requires-2-clause-can
 take-requires-2-clause-can c = λ p within.
     let is = moves (goal.at.take-requires-2-clause-can c).After-flow-flow p in
     let out = is.0 in
-    can-take-more (place_at c.args.places.now p) (place_at c.take.new.places p) (parts_at (ref_at c.args.connector.now.cells 0) c.flow-flow.result.out1 p)
+    can-take-more (cell_state_at c.args.states.now p) (cell_state_at c.take.new.states p) (parts_at (ref_at c.args.connector.now.cells 0) c.flow-flow.result.out1 p)
     (parts_at (ref_at c.args.connector.now.cells 1) c.flow-flow.result.out2 p) _ _ (c.take.ensures p (omega arith)) (c.requires.can p (omega arith)) (omega (arith, out))
 
 pub bring-requires-clause-can : goal.bring-requires-clause-can
@@ -39,7 +39,7 @@ bring-requires-clause-can c = λ p within.
     let gone = ap (λ one. one.gone) first in
     let n_second = ap (λ one. one.n) second in
     let gone_second = ap (λ one. one.gone) second in
-    can-bring (place_at c.args.places.now p) (place_at c.take-2.new.places p) (parts_at (ref_at c.args.connector.now.cells 2) c.flow-flow.result.in1 p) _ _
+    can-bring (cell_state_at c.args.states.now p) (cell_state_at c.take-2.new.states p) (parts_at (ref_at c.args.connector.now.cells 2) c.flow-flow.result.in1 p) _ _
     (omega (arith, n, n_second, into)) (omega (arith, gone, gone_second, out)) (c.requires.can p (omega arith))
 
 pub returns : goal.returns
@@ -50,5 +50,5 @@ returns c = λ p within.
     let z : ℕ = parts_at (ref_at c.args.connector.now.cells 2) c.flow-flow.result.in1 p in
     rw (is.0, is.1) (
     c.bring.ensures p (omega arith) ∙ ap (λ one. with_entered one z) (c.take-2.ensures p (omega arith) ∙ ap (λ one. with_left one y) (c.take.ensures p (omega arith))
-    ∙ left-twice (place_at c.args.places.now p) x y)
+    ∙ left-twice (cell_state_at c.args.states.now p) x y)
     )
