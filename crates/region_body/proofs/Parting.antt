@@ -141,7 +141,7 @@ refs-there net cells halo states put followed state_each put_each connected m fe
     is-within cells halo states put (slice_index (three_cells (connector_at net.connectors followed.number)) m) (ref_at followed.cells m) state_each put_each (connected.refs m few)
 
 pub can_carry : (net : Network) (t : ℕ) (cells halo : List ℕ) (others : List FollowedConnector) (states : List CellState) (put : List (Option ℕ)) (followed : FollowedConnector) →
-    IsScene net t cells halo others states put → IsConnectorAmong net cells halo followed → followed.timeline.step ≤ t → t < followed.timeline.until → CanCarry t followed states put
+    IsScene net t cells halo others states put → IsConnectorAmong net cells halo followed → followed.timeline.step ≤ t → t < followed.timeline.until → CanCarry t followed (length states) put
 can_carry net t cells halo others states put followed scene connected step until =
     record {
       refs = refs-there net cells halo states put followed scene.state_each scene.put_each connected;

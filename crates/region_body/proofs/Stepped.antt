@@ -51,13 +51,12 @@ scene-of net cells halo connectors t n placed put new others swept_states before
 
 pub can-carry-each : (net : Network) (cells halo connectors : List ℕ) (t : ℕ) (n : ℕ → ℕ) (placed : PlacedCells) (put : List (Option ℕ)) (new : Renewal) (others : List FollowedConnector) (swept_states : List CellState) (before : List ℕ) (k : ℕ) (d : FollowedConnector) →
     IsSwept net cells halo connectors t n placed put new others swept_states before → k < length others →
-    CanCarry t (get_or others k d) swept_states put
+    CanCarry t (get_or others k d) (length swept_states) put
 can-carry-each net cells halo connectors t n placed put new others swept_states before k d is within =
     let scene = scene-of net cells halo connectors t n placed put new others swept_states before is in
     let followed : FollowedConnector = get_or others k d in
     let follows = is.followed.each k d (omega (arith, within, is.followed.long)) in
-    let can : CanCarry t followed new.states put = can_carry net t cells halo others new.states put followed scene (scene.connected.each k d within) follows.step follows.later in
-    record { refs = rw is.long can.refs; step = can.step; until = can.until }
+    rw is.long (can_carry net t cells halo others new.states put followed scene (scene.connected.each k d within) follows.step follows.later)
 
 -- what was noted of cells is what they hold
 noted-held : (before : List ℕ) (states : List CellState) (put : List (Option ℕ)) (cell : CellRef) → length before ≡ length states →

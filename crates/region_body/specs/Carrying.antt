@@ -27,9 +27,9 @@ three_held connector held = held (ref_at connector.cells 0) ∷ held (ref_at con
 abbrev pub carried_of : (t : ℕ) → FollowedConnector → (held : CellRef → ℕ) → Flow
 carried_of t connector held = flow_at connector.timeline t (three_held connector held)
 
--- it can carry it: its cells are there, and its limits are those of the step
-pub record CanCarry (t : ℕ) (connector : FollowedConnector) (states : List CellState) (put : List (Option ℕ)) : Type 0 where
-  pub refs : (m : ℕ) → m < 3 → IsWithin (length states) put (ref_at connector.cells m)
+-- it can carry it: its cells are there, where the region has so many of its own, and its limits are those of the step
+pub record CanCarry (t : ℕ) (connector : FollowedConnector) (count : ℕ) (put : List (Option ℕ)) : Type 0 where
+  pub refs : (m : ℕ) → m < 3 → IsWithin count put (ref_at connector.cells m)
   pub step : connector.timeline.step ≤ t
   pub until : t < connector.timeline.until
 

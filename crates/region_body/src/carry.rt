@@ -1,11 +1,13 @@
 ghost use Rattle.std.specs.Prelude.{◌≡◌, ◌≤◌, All, length};
 ghost use Rattle.connector_flow.specs.declared.rule.Rule.TheVariants.{Diverging, Linking, Merging};
-ghost use Rattle.region_body.specs.Carrying.{CanCarry, CanConnectorPass, CanConnectorsPass, HasConnectorPassed, HaveConnectorsPassed};
+ghost use Rattle.region_body.specs.Carrying.{CanCarry, CanConnectorPass, CanConnectorsPass, HasConnectorPassed, HaveConnectorsPassed, carried_of};
+ghost use Rattle.region_body.specs.CellRefs.{held_before};
 
 use crate::cell_state::CellState;
 use crate::followed_connector::FollowedConnector;
 use crate::passing::{bring, take};
 use connector_flow::Rule;
+use flow_model::Flow;
 
 /// What all these connectors take from cells and bring to them in step `t`, by what was noted of the cells as it began and
 /// what was put for the halo.
@@ -17,7 +19,7 @@ pub(crate) fn carry_all(
     put: &[Option<u64>],
     states: &mut [CellState],
 )
-    requires each { All (λ connector. CanCarry t connector states.old put.now) connectors.now }
+    requires each { All (λ connector. CanCarry t connector (length states.old) put.now) connectors.now }
     requires one_each { length before.now ≡ length states.old }
     requires can { CanConnectorsPass t before.now put.now connectors.now states.old }
     ensures { HaveConnectorsPassed t before.now put.now connectors.now states.old states.new }
@@ -36,7 +38,7 @@ fn carry(
     put: &[Option<u64>],
     states: &mut [CellState],
 )
-    requires connector { CanCarry t connector.now states.old put.now }
+    requires connector { CanCarry t connector.now (length states.old) put.now }
     requires one_each { length before.now ≡ length states.old }
     requires can { CanConnectorPass t before.now put.now connector.now states.old }
     ensures { HasConnectorPassed t before.now put.now connector.now states.old states.new }
@@ -58,14 +60,13 @@ fn link(
     states: &mut [CellState],
 )
     requires rule { connector.now.timeline.rule ≡ Linking }
-    requires connector { CanCarry t connector.now states.old put.now }
+    requires connector { CanCarry t connector.now (length states.old) put.now }
     requires one_each { length before.now ≡ length states.old }
     requires can { CanConnectorPass t before.now put.now connector.now states.old }
     ensures { HasConnectorPassed t before.now put.now connector.now states.old states.new }
 {
     let [a, b, _] = connector.cells;
-    let n = [a.held_before(before, put), b.held_before(before, put), 0];
-    let flow = connector.timeline.flow(n);
+    let flow = carried(t, connector, before, put);
     take(states, a, flow.out1);
     bring(states, b, flow.in1);
 }
@@ -80,18 +81,13 @@ fn merge(
     states: &mut [CellState],
 )
     requires rule { connector.now.timeline.rule ≡ Merging }
-    requires connector { CanCarry t connector.now states.old put.now }
+    requires connector { CanCarry t connector.now (length states.old) put.now }
     requires one_each { length before.now ≡ length states.old }
     requires can { CanConnectorPass t before.now put.now connector.now states.old }
     ensures { HasConnectorPassed t before.now put.now connector.now states.old states.new }
 {
     let [a, b, c] = connector.cells;
-    let n = [
-        a.held_before(before, put),
-        b.held_before(before, put),
-        c.held_before(before, put),
-    ];
-    let flow = connector.timeline.flow(n);
+    let flow = carried(t, connector, before, put);
     take(states, a, flow.out1);
     take(states, b, flow.out2);
     bring(states, c, flow.in1);
@@ -107,19 +103,28 @@ fn diverge(
     states: &mut [CellState],
 )
     requires rule { connector.now.timeline.rule ≡ Diverging }
-    requires connector { CanCarry t connector.now states.old put.now }
+    requires connector { CanCarry t connector.now (length states.old) put.now }
     requires one_each { length before.now ≡ length states.old }
     requires can { CanConnectorPass t before.now put.now connector.now states.old }
     ensures { HasConnectorPassed t before.now put.now connector.now states.old states.new }
 {
     let [a, b, c] = connector.cells;
-    let n = [
-        a.held_before(before, put),
-        b.held_before(before, put),
-        c.held_before(before, put),
-    ];
-    let flow = connector.timeline.flow(n);
+    let flow = carried(t, connector, before, put);
     take(states, a, flow.out1);
     bring(states, b, flow.in1);
     bring(states, c, flow.in2);
+}
+
+// What it carries, by what its cells held as the step began.
+#[inline(always)]
+fn carried(t: u64, connector: &FollowedConnector, before: &[u64], put: &[Option<u64>]) -> Flow
+    requires { CanCarry t connector.now (length before.now) put.now }
+    ensures { result ≡ carried_of t connector.now (held_before before.now put.now) }
+{
+    let [a, b, c] = connector.cells;
+    connector.timeline.flow([
+        a.held_before(before, put),
+        b.held_before(before, put),
+        c.held_before(before, put),
+    ])
 }

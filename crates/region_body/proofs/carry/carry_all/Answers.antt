@@ -1,9 +1,9 @@
 use Rattle.std.specs.Prelude.{sum_by}
-use Rattle.std.proofs.Common.{◌≡◌, ℕ, length, subst, ap, ◌∙◌, arith}
+use Rattle.std.proofs.Common.{◌≡◌, ℕ, length, ap, ◌∙◌, arith}
 use Rattle.std.proofs.lemmas.List.{take_all}
 use Rattle.region_body.specs.CellStates.{cell_state_at}
-use Rattle.region_body.specs.Carrying.{CanCarry, brought, passed, taken}
-use Rattle.region_body.specs.CellRefs.{IsWithin, held_before, ref_at}
+use Rattle.region_body.specs.Carrying.{brought, passed, taken}
+use Rattle.region_body.specs.CellRefs.{held_before}
 use Rattle.region_body.specs.declared.followed_connector.FollowedConnector.{FollowedConnector}
 use Rattle.region_body.proofs.MovedStates.{can-pass-more, passed-more, passed-none}
 use Rattle.region_body.proofs.carry.carry_all.Goals as goal
@@ -13,12 +13,9 @@ loop-connector-init c = λ p within. passed-none (cell_state_at c.args.states.no
 
 pub carry-requires-clause-connector : goal.carry-requires-clause-connector
 carry-requires-clause-connector c =
-    let put = c.args.put.now in
     let connector : FollowedConnector = c.connector-item.result in
-    let first = c.args.states.now in
-    let long : length first ≡ length c.loop-connector.states = omega arith in
-    let is : CanCarry c.args.t connector first put = rw (← c.connector-item.is) at (c.requires.each c.loop-connector.connector-index connector (omega arith)) in
-    record { refs = λ m few. subst (λ k. IsWithin k put (ref_at connector.cells m)) long (is.refs m few); step = is.step; until = is.until }
+    let long : length c.args.states.now ≡ length c.loop-connector.states = omega arith in
+    rw (← c.connector-item.is, long) at (c.requires.each c.loop-connector.connector-index connector (omega arith))
 
 pub carry-requires-clause-can : goal.carry-requires-clause-can
 carry-requires-clause-can c = λ p within.
