@@ -26,7 +26,7 @@ use Rattle.region_body.specs.declared.cell_state.CellState.{CellState}
 use Rattle.timelines.specs.Links.{most_between}
 use Rattle.region_cut.proofs.Anys.{found, finds, not_false}
 use Rattle.region_cut.proofs.Ranges.{Contains-filter_range, filter_range-Contains, range-Contains}
-use Rattle.region_body.specs.Moves.{in_by, out_by}
+use Rattle.region_body.proofs.Moves.{in_by, out_by}
 use Rattle.region_body.specs.Chains.{AreAround, AreDistinct, is_chained, is_joined, is_link, most_out, odd_ones}
 use Rattle.region_body.proofs.Links.{IsLinkAt, carried-link, carried-none, entering-link, leaving-link, link-is}
 use Rattle.region_body.proofs.Shares.{in_range, sum-all, sum-none}

@@ -4,8 +4,7 @@ use Rattle.std.proofs.Common.{◌≡◌, ℕ, ◌+◌, ◌<◌, ◌≤◌, inl, 
 use Rattle.std.proofs.lemmas.Bool.{cases_eq}
 use Rattle.std.proofs.lemmas.List.{get_or-set_other, get_or-set_same, length-set}
 use Rattle.network_file.specs.Network.{Network}
-use Rattle.region_body.specs.Carrying.{AreConnectorsFollowed, IsConnectorAmong, IsConnectorFollowed}
-use Rattle.region_body.specs.Moves.{AreConnectorsAmong}
+use Rattle.region_body.specs.Carrying.{AreConnectorsAmong, AreConnectorsFollowed, IsConnectorAmong, IsConnectorFollowed}
 use Rattle.region_body.specs.declared.followed_connector.FollowedConnector.{FollowedConnector}
 use Rattle.region_body.proofs.SameMaps.{map-same}
 

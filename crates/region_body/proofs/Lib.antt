@@ -11,6 +11,7 @@ pub mod Links
 pub mod Flowing
 pub mod Stepping
 pub mod MovedStates
+pub mod Moves
 pub mod Ruled
 pub mod Parting
 pub mod SameMaps

@@ -16,9 +16,10 @@ use Rattle.region_body.specs.declared.cell_state.CellState.{CellState}
 use Rattle.signal_plan.proofs.Sums.{sum_by-same}
 use Rattle.region_cut.specs.ConnectorCells.{three_cells}
 use Rattle.connector_flow.specs.Following.{rule_of}
-use Rattle.region_body.specs.Carrying.{CanCarry, IsConnectorAmong, brought, brought_by, carried_of, taken, taken_by, three_held}
+use Rattle.region_body.specs.Carrying.{AreConnectorsAmong, CanCarry, IsConnectorAmong, brought, brought_by, carried_of, taken, taken_by, three_held}
 use Rattle.region_body.specs.CellRefs.{AreRefsOf, IsRefOf, IsWithin, held_in, parts_at, ref_at}
-use Rattle.region_body.specs.Moves.{AreConnectorsAmong, ArePartsOf, IsScene, IsSeen, in_by, out_by}
+use Rattle.region_body.proofs.Moves.{ArePartsOf, IsScene, in_by, out_by}
+use Rattle.region_body.specs.Placed.{IsSeen}
 use Rattle.region_body.specs.declared.followed_connector.FollowedConnector.{FollowedConnector}
 
 -- so many parts of a cell are those at its place

@@ -27,9 +27,9 @@ use Rattle.region_body.specs.Carrying.{three_held}
 use Rattle.region_body.specs.CellRefs.{held_in, ref_at}
 use Rattle.region_body.specs.Chains.{most_out}
 use Rattle.region_body.specs.Gates.{AreGatesKept, demand_into}
-use Rattle.region_body.specs.Moves.{ArePartsOf, IsScene, IsSeen, in_by, out_by}
+use Rattle.region_body.proofs.Moves.{ArePartsOf, IsScene, in_by, out_by}
 use Rattle.region_body.specs.Pausing.{AreIdle, IsIdleUntil}
-use Rattle.region_body.specs.Placed.{AreStatesInBounds, ArePlaced, CanAdvance, PlacedCells, WaitThrough}
+use Rattle.region_body.specs.Placed.{ArePlaced, AreStatesInBounds, CanAdvance, IsSeen, PlacedCells, WaitThrough}
 use Rattle.region_body.specs.Rows.{IsOf, constants_at, row_of, rows_of}
 use Rattle.region_body.specs.Speeds.{at_speeds, slowed_state, ratio_at}
 use Rattle.region_body.specs.Waiting.{waited}

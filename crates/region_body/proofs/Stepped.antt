@@ -11,7 +11,8 @@ use Rattle.region_body.specs.declared.cell_state.CellState.{CellState}
 use Rattle.region_body.specs.Carrying.{AreConnectorsFollowed, CanCarry, CanPass, brought, passed, taken}
 use Rattle.region_body.specs.CellRefs.{held_before, held_in}
 use Rattle.region_body.specs.Gates.{demand_into}
-use Rattle.region_body.specs.Moves.{IsScene, IsSeen}
+use Rattle.region_body.proofs.Moves.{IsScene}
+use Rattle.region_body.specs.Placed.{IsSeen}
 use Rattle.region_body.specs.Placed.{ArePlaced, AreStatesInBounds, PlacedCells}
 use Rattle.region_body.specs.declared.followed_connector.FollowedConnector.{FollowedConnector}
 use Rattle.region_body.proofs.Neighbours.{cell_state_at-past}

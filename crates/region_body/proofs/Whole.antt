@@ -27,11 +27,11 @@ use Rattle.connector_flow.proofs.Spaces.{has-space}
 use Rattle.region_body.specs.declared.cell_state.CellState.{CellState}
 use Rattle.region_body.proofs.LinkFlows.{held-fits}
 use Rattle.region_body.specs.Chains.{AreAround, most_out, odd_ones}
-use Rattle.region_body.specs.Placed.{AreStatesInBounds, ArePlaced, CanAdvance, PlacedCells}
+use Rattle.region_body.specs.Placed.{ArePlaced, AreStatesInBounds, CanAdvance, IsSeen, PlacedCells}
 use Rattle.region_body.specs.FollowedLinks.{AreFollowed}
 use Rattle.region_body.specs.declared.followed_link.FollowedLink.{FollowedLink}
 use Rattle.region_cut.proofs.Ranges.{Contains-filter_range}
-use Rattle.region_body.specs.Moves.{ArePartsOf, IsScene, IsSeen, demand_for, in_by, out_by}
+use Rattle.region_body.proofs.Moves.{ArePartsOf, IsScene, demand_for, in_by, out_by}
 use Rattle.region_body.specs.Speeds.{CanSweep, is_slow}
 use Rattle.region_body.specs.Rows.{AreSettled, IsOf, constants_at, row_of, rows_of}
 use Rattle.region_body.specs.declared.cell_constants.CellConstants.{CellConstants}

@@ -1,5 +1,5 @@
 -- What the connectors that aren't chained carry in a step.
-use Rattle.std.specs.Prelude.{◌≡◌, ℕ, ◌+◌, ◌^◌, ◌<◌, ◌≤◌, List, [], ◌∷◌, Option, length, slice_index_or, sum_by}
+use Rattle.std.specs.Prelude.{◌≡◌, ◌≢◌, ℕ, ◌+◌, ◌^◌, ◌<◌, ◌≤◌, All, List, [], ◌∷◌, Option, length, slice_index, slice_index_or, sum_by}
 use Rattle.network_file.specs.Connectors.{connector_at}
 use Rattle.network_file.specs.Network.{Network}
 use Rattle.connector_flow.specs.Flows.{flow_at}
@@ -7,6 +7,7 @@ use Rattle.connector_flow.specs.Following.{IsTimelineOf}
 use Rattle.connector_flow.specs.declared.rule.Rule.{Rule}
 use Rattle.connector_flow.specs.declared.rule.Rule.TheVariants.{Linking, Merging, Diverging}
 use Rattle.flow_model.specs.declared.carried.Flow.{Flow}
+use Rattle.region_body.specs.Chains.{AreDistinct}
 use Rattle.region_body.specs.CellRefs.{AreRefsOf, IsWithin, held_before, parts_at, ref_at}
 use Rattle.region_body.specs.CellStates.{cell_state_at, with_entered, with_left}
 use Rattle.region_body.specs.declared.cell_ref.CellRef.{CellRef}
@@ -18,6 +19,12 @@ pub record IsConnectorAmong (net : Network) (cells halo : List ℕ) (connector :
   pub there : connector.number < length net.connectors
   pub refs : AreRefsOf cells halo (connector_at net.connectors connector.number) connector.cells
   pub timeline : IsTimelineOf net (connector_at net.connectors connector.number) connector.timeline
+
+-- so are these, where no cell stands at two places and none of the halo is one of the region's own
+pub record AreConnectorsAmong (net : Network) (cells halo : List ℕ) (connectors : List FollowedConnector) : Type 0 where
+  pub distinct : AreDistinct cells
+  pub apart : (p j : ℕ) → p < length cells → j < length halo → slice_index cells p ≢ slice_index halo j
+  pub each : All (IsConnectorAmong net cells halo) connectors
 
 -- what its three cells hold
 abbrev pub three_held : FollowedConnector → (held : CellRef → ℕ) → List ℕ

@@ -9,7 +9,6 @@ pub mod SpeedFactors
 pub mod Rows
 pub mod CellRefs
 pub mod Carrying
-pub mod Moves
 pub mod Gates
 pub mod Waiting
 pub mod Pausing

@@ -17,7 +17,7 @@ use Rattle.region_body.specs.FollowedLinks.{AreFollowed, IsLinkThere}
 use Rattle.region_body.specs.declared.followed_link.FollowedLink.{FollowedLink}
 use Rattle.region_body.specs.Chains.{AreAround, most_out, odd_ones}
 use Rattle.region_body.specs.Joining.{AreKnown}
-use Rattle.region_body.specs.Moves.{AreConnectorsAmong, IsSeen}
+use Rattle.region_body.specs.Carrying.{AreConnectorsAmong}
 use Rattle.region_body.specs.Pausing.{IsPauseOf}
 use Rattle.region_body.specs.Rows.{IsOf, constants_at, rows_of}
 use Rattle.region_body.specs.SpeedZones.{AreZones}
@@ -77,6 +77,11 @@ pub record AreStatesInBounds (net : Network) (cells halo : List ℕ) (t : ℕ) (
   pub own : (p : ℕ) → p < length cells → IsRowInBounds net t (slice_index cells p) (row_at (rows_of placed.constants placed.states) p)
   pub put_each : length put ≡ length halo
   pub around : (j : ℕ) → j < length halo → IsHeldInBounds net t (slice_index halo j) (put_at put j)
+
+-- the cells hold n: those of the region by their states, those of its halo by what was put there
+pub record IsSeen (n : ℕ → ℕ) (cells halo : List ℕ) (states : List CellState) (put : List (Option ℕ)) : Type 0 where
+  pub own : (p : ℕ) → p < length cells → n (slice_index cells p) ≡ (cell_state_at states p).n
+  pub around : (j : ℕ) → j < length halo → n (slice_index halo j) ≡ put_at put j
 
 -- all that a step stands on; the cells hold n as it begins
 pub record CanAdvance (net : Network) (cells : List ℕ) (t : ℕ) (placed : PlacedCells) (put : List (Option ℕ)) : Type 0 where

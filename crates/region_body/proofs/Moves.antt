@@ -1,5 +1,5 @@
--- What single connectors take from cells and bring to them, and what a step of a region stands on.
-use Rattle.std.specs.Prelude.{◌≡◌, ◌≢◌, ◌==◌, ℕ, ◌<◌, All, List, Option, length, slice_index, if◌then◌else◌}
+-- What single connectors take from cells and bring to them, and what a region's connectors stand on in a step.
+use Rattle.std.specs.Prelude.{◌≡◌, ◌==◌, ℕ, ◌<◌, List, Option, length, slice_index, if◌then◌else◌}
 use Rattle.std.specs.List.{sum_by}
 use Rattle.signal_plan.specs.Demand.{demand_at}
 use Rattle.signal_plan.specs.Records.{PlanRecords}
@@ -7,11 +7,10 @@ use Rattle.network_file.specs.Connectors.{connector_at}
 use Rattle.network_file.specs.Network.{IsNetwork, Network}
 use Rattle.flow_model.specs.Bounds.{IsHeldInBounds}
 use Rattle.flow_model.specs.Flows.{entering, flow_of, leaving}
-use Rattle.region_body.specs.Chains.{AreDistinct}
 use Rattle.region_body.specs.CellRefs.{put_at}
 use Rattle.region_body.specs.CellStates.{cell_state_at}
 use Rattle.region_body.specs.declared.cell_state.CellState.{CellState}
-use Rattle.region_body.specs.Carrying.{IsConnectorAmong}
+use Rattle.region_body.specs.Carrying.{AreConnectorsAmong}
 use Rattle.region_body.specs.declared.followed_connector.FollowedConnector.{FollowedConnector}
 
 -- what connector k takes from cell i in step t, where the cells hold n
@@ -25,17 +24,6 @@ in_by net t n i k = entering i (connector_at net.connectors k) (flow_of net t n 
 -- what the gate at place q brings to place p in step t
 abbrev pub demand_for : PlanRecords → (t : ℕ) → (cells : List ℕ) → (p q : ℕ) → ℕ
 demand_for plan t cells p q = if q == p then demand_at plan (slice_index cells q) t else 0
-
--- the cells hold n: those of the region by their states, those of its halo by what was put there
-pub record IsSeen (n : ℕ → ℕ) (cells halo : List ℕ) (states : List CellState) (put : List (Option ℕ)) : Type 0 where
-  pub own : (p : ℕ) → p < length cells → n (slice_index cells p) ≡ (cell_state_at states p).n
-  pub around : (j : ℕ) → j < length halo → n (slice_index halo j) ≡ put_at put j
-
--- so are these, where no cell stands at two places and none of the halo is one of the region's own
-pub record AreConnectorsAmong (net : Network) (cells halo : List ℕ) (connectors : List FollowedConnector) : Type 0 where
-  pub distinct : AreDistinct cells
-  pub apart : (p j : ℕ) → p < length cells → j < length halo → slice_index cells p ≢ slice_index halo j
-  pub each : All (IsConnectorAmong net cells halo) connectors
 
 -- from each place goes what these connectors take from its cell, and to it comes what they bring
 pub record ArePartsOf (net : Network) (t : ℕ) (n : ℕ → ℕ) (cells : List ℕ) (connectors : List FollowedConnector) (outs ins : ℕ → ℕ) : Type 0 where
