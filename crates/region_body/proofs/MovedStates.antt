@@ -1,12 +1,10 @@
 -- Places from which parts are taken and to which parts are brought.
-use Rattle.std.proofs.Common.{◌≡◌, ◌≢◌, ◌==◌, ℕ, ◌+◌, ◌-◌, ◌^◌, ◌<◌, ◌≤◌, List, length, take, if◌then◌else◌, refl, sym, ap, subst, ◌∙◌, inl, inr, arith}
+use Rattle.std.proofs.Common.{◌≡◌, ◌==◌, ℕ, ◌+◌, ◌-◌, ◌^◌, ◌<◌, ◌≤◌, List, length, take, if◌then◌else◌, refl, sym, ap, ◌∙◌, arith}
 use Rattle.std.specs.Prelude.{sum_by}
 use Rattle.std.proofs.lemmas.List.Sums.{sum_by_more, sum_by_more_le}
-use Rattle.std.proofs.Math.ListN.{get_or, set}
-use Rattle.std.proofs.lemmas.Bool.{cases_eq}
+use Rattle.std.proofs.Math.ListN.{get_or}
 use Rattle.std.proofs.lemmas.Bool.Decides.{nat_tests}
-use Rattle.std.proofs.lemmas.List.{get_or-set_same, get_or-set_other}
-use Rattle.region_body.specs.CellStates.{no_state, cell_state_at, with_entered, with_left}
+use Rattle.region_body.specs.CellStates.{with_entered, with_left}
 use Rattle.region_body.specs.declared.cell_state.CellState.{CellState}
 use Rattle.region_body.specs.Carrying.{CanPass, passed}
 
@@ -33,21 +31,6 @@ passed-twice state enters leaves more went held =
 -- what one cell is moved by
 pub at-one : (q parts : ℕ) → (if q == q then parts else 0) ≡ parts
 at-one q parts = grind (arith, nat_tests)
-
-at-other : (p q parts : ℕ) → p ≢ q → (if q == p then parts else 0) ≡ 0
-at-other p q parts other = grind (arith, nat_tests)
-
--- one state moves and the others stay
-pub moves-one : (move : CellState → ℕ → CellState) (states : List CellState) (q parts : ℕ) (state : CellState) → ((one : CellState) → one ≡ move one 0) → q < length states →
-    state ≡ move (cell_state_at states q) parts → (p : ℕ) → p < length states →
-    cell_state_at (set states q state) p ≡ move (cell_state_at states p) (if q == p then parts else 0)
-moves-one move states q parts state none there is p within = elim (cases_eq p q) [
-  | inl same ↦
-      subst (λ k. cell_state_at (set states q state) k ≡ move (cell_state_at states k) (if q == k then parts else 0)) (sym same)
-      (get_or-set_same states q state no_state there ∙ is ∙ ap (move (cell_state_at states q)) (sym (at-one q parts)))
-  | inr other ↦
-      get_or-set_other states q p state no_state other ∙ none (cell_state_at states p) ∙ ap (move (cell_state_at states p)) (sym (at-other p q parts other))
-]
 
 -- of a state that passes all these one after the other
 
