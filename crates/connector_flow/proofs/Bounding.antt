@@ -4,7 +4,7 @@ use Rattle.std.proofs.Common.{◌≡◌, ℕ, ◌<◌, ◌≤◌, refl, sym, ◌
 use Rattle.timelines.specs.Timelines.{IsSteady, value_at}
 use Rattle.signal_plan.specs.Limits.{most_steps}
 use Rattle.timelines.specs.Cells.{cell_most}
-use Rattle.connector_flow.specs.Limits.{AreInForce, AreKept, HaveCome, limits_of_timelines, limits_in, moved_to}
+use Rattle.connector_flow.specs.Limits.{AreInForce, AreKept, HaveTimelinesCome, limits_of_timelines, limits_in, moved_to}
 use Rattle.connector_flow.specs.Weights.{AreWeights}
 use Rattle.connector_flow.specs.declared.limit_timelines.LimitTimelines.{LimitTimelines}
 use Rattle.connector_flow.specs.declared.limits.Limits.{Limits}
@@ -28,7 +28,7 @@ limits-moved timelines t s = refl
 pub weights-moved : (timelines : LimitTimelines) (t : ℕ) → AreWeights timelines.weights → AreWeights (moved_to timelines t).weights
 weights-moved timelines t within = within
 
-pub come-moved : (timelines : LimitTimelines) (t : ℕ) → HaveCome (moved_to timelines t) t
+pub come-moved : (timelines : LimitTimelines) (t : ℕ) → HaveTimelinesCome (moved_to timelines t) t
 come-moved timelines t = record {
   first = omega arith;
   second = omega arith;

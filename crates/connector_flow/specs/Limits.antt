@@ -35,7 +35,7 @@ limits_by plan rule cells weights t = record {
 }
 
 -- each has come to no step past t
-pub record HaveCome (timelines : LimitTimelines) (t : ℕ) : Type 0 where
+pub record HaveTimelinesCome (timelines : LimitTimelines) (t : ℕ) : Type 0 where
   pub first : timelines.first.capacity.step ≤ t
   pub second : timelines.second.capacity.step ≤ t
   pub third : timelines.third.capacity.step ≤ t
@@ -54,7 +54,7 @@ moved_to timelines t = record {
 pub record AreInForce (timelines : LimitTimelines) (limits : Limits) (step until : ℕ) : Type 0 where
   pub steady : (t : ℕ) → step ≤ t → t < until → limits_of_timelines timelines t ≡ limits
   pub later : step < until
-  pub come : HaveCome timelines step
+  pub come : HaveTimelinesCome timelines step
   pub weights : AreWeights timelines.weights
 
 -- where nothing changes no timelines are kept, and the limits stay past the last step that there may be

@@ -1,6 +1,6 @@
 ghost use Rattle.std.specs.Prelude.{◌≡◌, ◌≤◌, ◌<◌, ◌+◌, ℕ, All, IfOk, length};
 ghost use Rattle.timelines.specs.Timelines.{IsSteady, value_at};
-ghost use Rattle.connector_flow.specs.Limits.{HaveCome, limits_of_timelines, limits_by, moved_to, sends_second};
+ghost use Rattle.connector_flow.specs.Limits.{HaveTimelinesCome, limits_of_timelines, limits_by, moved_to, sends_second};
 ghost use Rattle.connector_flow.specs.Weights.{AreWeights};
 
 use crate::limits::Limits;
@@ -33,7 +33,7 @@ impl LimitTimelines {
         requires step { weights.step ≡ 0 }
         ensures limits { IfOk result (λ timelines. (t : ℕ) → limits_of_timelines timelines t ≡ limits_by plan.now rule cells weights t) }
         ensures weights { IfOk result (λ timelines. timelines.weights ≡ weights) }
-        ensures step { IfOk result (λ timelines. HaveCome timelines 0) }
+        ensures step { IfOk result (λ timelines. HaveTimelinesCome timelines 0) }
     {
         let [a, b, c] = cells;
         Ok(LimitTimelines {
@@ -59,7 +59,7 @@ impl LimitTimelines {
 
     /// Follows them to step `t`, and tells what is in force from there on. The weights that were in force mostly still are.
     pub(crate) fn move_to(&mut self, t: u64, were: WeightPair) -> Now<Limits>
-        requires forward { HaveCome self.old t }
+        requires forward { HaveTimelinesCome self.old t }
         requires in_time { t ≤ MOST_STEPS }
         requires weights { AreWeights self.old.weights }
         ensures value { result.value ≡ limits_of_timelines self.old t }

@@ -39,6 +39,7 @@ impl<'r> Model for ByCell<'r> {
 }
 
 impl<'r> ByCell<'r> {
+    /// The regions, with the place of each of the network's cells found once for all.
     pub(crate) fn of(alloc: Global, regions: &'r Regions<'r>) -> Result<ByCell<'r>, NoMemory>
         requires { AreAtLast regions.now }
         ensures { IfOk result (λ by_cell. by_cell ≡ regions.now) }

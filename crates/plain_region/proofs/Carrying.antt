@@ -21,30 +21,30 @@ use Rattle.region_cut.specs.ConnectorCells.{three_cells}
 use Rattle.region_body.proofs.Parting.{flow_between-three, three_in_bounds}
 use Rattle.region_step.specs.Advance.{known}
 use Rattle.region_step.specs.Apart.{AreApart}
-use Rattle.plain_region.specs.Carrying.{CanCarry, IsChangeOf, IsScene, IsThere, carried_of, change_at, held_at, moved_by}
+use Rattle.plain_region.specs.Carrying.{CanCarry, IsChangeOf, IsScene, IsWithin, carried_of, change_at, held_in, moved_by}
 use Rattle.plain_region.specs.RegionConnectors.{IsRefOf, IsRegionConnector, ref_at}
 use Rattle.plain_region.specs.declared.change.Change.{Change}
 use Rattle.plain_region.specs.declared.cell_ref.CellRef.{CellRef}
 use Rattle.plain_region.specs.declared.cell_ref.CellRef.TheVariants.{Own, Halo}
 use Rattle.plain_region.specs.declared.region_connector.RegionConnector.{RegionConnector}
 use Rattle.plain_region.proofs.Changes.{length-moved_by, moved_by-at}
-use Rattle.plain_region.proofs.CellRefs.{held_at-known}
+use Rattle.plain_region.proofs.CellRefs.{held_in-known}
 
 -- what a connector carries
 
-place-there : (net : Network) (t : ℕ) (cells halo : List ℕ) (connectors : List RegionConnector) (rows : List Row) (put : List (Option ℕ)) (i : ℕ) (place : CellRef) →
-    IsScene net t cells halo connectors rows put → IsRefOf cells halo i place → IsThere rows put place × IsHeldInBounds net t i (held_at rows put place)
-place-there net t cells halo connectors rows put i (Own p) scene (there, is) =
+cell-there : (net : Network) (t : ℕ) (cells halo : List ℕ) (connectors : List RegionConnector) (rows : List Row) (put : List (Option ℕ)) (i : ℕ) (cell : CellRef) →
+    IsScene net t cells halo connectors rows put → IsRefOf cells halo i cell → IsWithin (length rows) put cell × IsHeldInBounds net t i (held_in rows put cell)
+cell-there net t cells halo connectors rows put i (Own p) scene (there, is) =
     (omega (arith, scene.row_each, there), rw is at ((scene.own p there).held))
-place-there net t cells halo connectors rows put i (Halo p) scene (there, is) =
+cell-there net t cells halo connectors rows put i (Halo p) scene (there, is) =
     (omega (arith, scene.put_each, there), rw is at (scene.around p there))
 
 pub can_carry : (net : Network) (t : ℕ) (cells halo : List ℕ) (connectors : List RegionConnector) (rows : List Row) (put : List (Option ℕ)) (one : RegionConnector) →
     IsScene net t cells halo connectors rows put → IsRegionConnector net cells halo one → CanCarry net t one rows put
 can_carry net t cells halo connectors rows put one scene found =
     let connector : Connector = connector_at net.connectors one.number in
-    let at : (m : ℕ) → m < 3 → IsThere rows put (ref_at one m) × IsHeldInBounds net t (slice_index (three_cells connector) m) (held_at rows put (ref_at one m)) =
-    λ m few. place-there net t cells halo connectors rows put (slice_index (three_cells connector) m) (ref_at one m) scene (found.refs m few) in
+    let at : (m : ℕ) → m < 3 → IsWithin (length rows) put (ref_at one m) × IsHeldInBounds net t (slice_index (three_cells connector) m) (held_in rows put (ref_at one m)) =
+    λ m few. cell-there net t cells halo connectors rows put (slice_index (three_cells connector) m) (ref_at one m) scene (found.refs m few) in
     record {
       connector = found.there;
       before = scene.before;
@@ -56,8 +56,8 @@ carried-is : (net : Network) (t : ℕ) (cells halo : List ℕ) (rows : List Row)
     carried_of net t one rows put ≡ flow_of net t (known cells halo rows put) (connector_at net.connectors one.number)
 carried-is net t cells halo rows put one apart found =
     let connector : Connector = connector_at net.connectors one.number in
-    let at : (m : ℕ) → m < 3 → held_at rows put (ref_at one m) ≡ known cells halo rows put (slice_index (three_cells connector) m) =
-    λ m few. held_at-known cells halo rows put (slice_index (three_cells connector) m) (ref_at one m) apart (found.refs m few) in
+    let at : (m : ℕ) → m < 3 → held_in rows put (ref_at one m) ≡ known cells halo rows put (slice_index (three_cells connector) m) =
+    λ m few. held_in-known cells halo rows put (slice_index (three_cells connector) m) (ref_at one m) apart (found.refs m few) in
     let a = at 0 (omega arith) in
     let b = at 1 (omega arith) in
     let c = at 2 (omega arith) in

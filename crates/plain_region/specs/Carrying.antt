@@ -21,14 +21,14 @@ use Rattle.plain_region.specs.declared.cell_ref.CellRef.TheVariants.{Own, Halo}
 use Rattle.plain_region.specs.declared.region_connector.RegionConnector.{RegionConnector}
 
 -- what a cell holds
-abbrev pub held_at : List Row → (put : List (Option ℕ)) → CellRef → ℕ
-held_at rows put (Own p) = occupancy rows p
-held_at rows put (Halo p) = unwrap_or (slice_index_or put p None) 0
+abbrev pub held_in : List Row → (put : List (Option ℕ)) → CellRef → ℕ
+held_in rows put (Own p) = occupancy rows p
+held_in rows put (Halo p) = unwrap_or (slice_index_or put p None) 0
 
--- the cell is there
-abbrev pub IsThere : List Row → (put : List (Option ℕ)) → CellRef → Type 0
-IsThere rows put (Own p) = p < length rows
-IsThere rows put (Halo p) = p < length put
+-- the cell is there, where the region has so many of its own and so much was put for its halo
+abbrev pub IsWithin : (count : ℕ) → (put : List (Option ℕ)) → CellRef → Type 0
+IsWithin count put (Own p) = p < count
+IsWithin count put (Halo p) = p < length put
 
 -- where it is one of the region's own, it has a change among these
 abbrev pub IsAmong : List Change → CellRef → Type 0
@@ -62,7 +62,7 @@ moved_by (Diverge up down1 down2 b1 b2) one flow changes =
 
 -- what a connector's three cells hold
 abbrev pub three_held : RegionConnector → List Row → (put : List (Option ℕ)) → List ℕ
-three_held one rows put = held_at rows put (ref_at one 0) ∷ held_at rows put (ref_at one 1) ∷ held_at rows put (ref_at one 2) ∷ []
+three_held one rows put = held_in rows put (ref_at one 0) ∷ held_in rows put (ref_at one 1) ∷ held_in rows put (ref_at one 2) ∷ []
 
 -- what it carries in step t
 abbrev pub carried_of : Network → (t : ℕ) → RegionConnector → List Row → (put : List (Option ℕ)) → Flow
@@ -72,7 +72,7 @@ carried_of net t one rows put = flow_between net t (connector_at net.connectors 
 pub record CanCarry (net : Network) (t : ℕ) (one : RegionConnector) (rows : List Row) (put : List (Option ℕ)) : Type 0 where
   pub connector : one.number < length net.connectors
   pub before : t < net.steps
-  pub refs : (m : ℕ) → m < 3 → IsThere rows put (ref_at one m)
+  pub refs : (m : ℕ) → m < 3 → IsWithin (length rows) put (ref_at one m)
   pub held : AreHeldInBounds net t (cells_of (connector_at net.connectors one.number)) (three_held one rows put)
 
 -- what connectors bring to cell i and take from it in step t; what enters a gate is its demand alone

@@ -1,5 +1,5 @@
-ghost use Rattle.std.specs.Prelude.{◌≡◌};
-ghost use Rattle.plain_region.specs.Carrying.{held_at, IsThere};
+ghost use Rattle.std.specs.Prelude.{◌≡◌, length};
+ghost use Rattle.plain_region.specs.Carrying.{IsWithin, held_in};
 
 use crate::cell_ref::CellRef;
 use flow_model::Row;
@@ -15,8 +15,8 @@ pub(crate) struct Occupancies<'a> {
 impl Occupancies<'_> {
     /// What a cell holds.
     pub(crate) fn held(&self, cell: CellRef) -> u64
-        requires { IsThere self.now.rows.now self.now.put.now cell }
-        ensures { result ≡ held_at self.now.rows.now self.now.put.now cell }
+        requires { IsWithin (length self.now.rows.now) self.now.put.now cell }
+        ensures { result ≡ held_in self.now.rows.now self.now.put.now cell }
     {
         match cell {
             CellRef::Own(p) => self.rows[p as usize].n,

@@ -10,8 +10,8 @@ use Rattle.network_file.specs.Connectors.{connector_at}
 use Rattle.network_file.specs.Network.{Network}
 use Rattle.network_file.specs.declared.connector.Connector.{Connector}
 use Rattle.network_file.specs.declared.connector.Connector.TheVariants.{Link}
-use Rattle.region_body.specs.Places.{place_at}
-use Rattle.region_body.specs.declared.place.Place.{Place}
+use Rattle.region_body.specs.CellStates.{cell_state_at}
+use Rattle.region_body.specs.declared.cell_state.CellState.{CellState}
 use Rattle.region_cut.proofs.Anys.{finds}
 use Rattle.region_cut.proofs.Ranges.{range-Contains}
 use Rattle.timelines.specs.Links.{most_between}
@@ -19,7 +19,7 @@ use Rattle.region_body.specs.FollowedLinks.{AreFollowed, IsLinkThere}
 use Rattle.region_body.specs.declared.followed_link.FollowedLink.{FollowedLink}
 use Rattle.region_body.specs.Chains.{AreDistinct, is_chained, is_joined, is_link, most_out, odd_ones}
 use Rattle.region_body.specs.Joining.{Extends, IsAt}
-use Rattle.region_body.specs.Carrying.{IsConnected}
+use Rattle.region_body.specs.Carrying.{IsConnectorAmong}
 use Rattle.region_body.specs.declared.followed_connector.FollowedConnector.{FollowedConnector}
 use Rattle.region_body.proofs.Links.{link-is}
 
@@ -45,7 +45,7 @@ or_false : (b : Bool) → (b || false) ≡ b
 or_false true = refl
 or_false false = refl
 
--- a link joins one place alone
+-- a link leads out of one place alone
 one-place : (cells : List ℕ) (p q : ℕ) (connector : Connector) → AreDistinct cells → is_link cells p connector ≡ true → q ≢ p →
     is_link cells q connector ≡ false
 one-place cells p q connector distinct linked other = elim (cases_Bool (is_link cells q connector)) [
@@ -109,9 +109,9 @@ unchained-more net cells connectors j q s within odd =
     (joined-more net cells connectors j q within ∙ ap (λ b. is_joined net cells (take j connectors) q || b) none ∙ or_false (is_joined net cells (take j connectors) q))
 
 -- the same by another name
-pub followed-same : (most later : ℕ → ℕ → ℕ) (places : List Place) (links : List FollowedLink) (t : ℕ) → ((q s : ℕ) → later q s ≡ most q s) →
-    AreFollowed most places links t → AreFollowed later places links t
-followed-same most later places links t same followed = record {
+pub followed-same : (most later : ℕ → ℕ → ℕ) (states : List CellState) (links : List FollowedLink) (t : ℕ) → ((q s : ℕ) → later q s ≡ most q s) →
+    AreFollowed most states links t → AreFollowed later states links t
+followed-same most later states links t same followed = record {
   timelines = λ k d within s. followed.timelines k d within s ∙ sym (same (get_or links k d).place s);
   each = λ p within. elim (followed.each p within) [
     | inl constant ↦ inl (λ s from. constant s from ∙ sym (same p s))
@@ -127,10 +127,10 @@ followed-same most later places links t same followed = record {
 }
 
 -- nothing is joined yet
-pub followed-none : (net : Network) (cells connectors : List ℕ) (places : List Place) (t : ℕ) → ((p : ℕ) → (place_at places p).most ≡ 0) →
-    AreFollowed (most_out net cells (take 0 connectors)) places [] t
+pub followed-none : (net : Network) (cells connectors : List ℕ) (states : List CellState) (t : ℕ) → ((p : ℕ) → (cell_state_at states p).most ≡ 0) →
+    AreFollowed (most_out net cells (take 0 connectors)) states [] t
 unfolding most_out is_joined
-followed-none net cells connectors places t none = record {
+followed-none net cells connectors states t none = record {
   timelines = λ k d within. absurd (omega arith);
   each = λ p within. inl (λ s from. none p);
 }
@@ -148,43 +148,43 @@ odd-more net cells connectors j b within is =
     one odd x true is = rw is refl
     one odd x false is = rw is refl
 
--- the places keep all but their most
-pub record AreJoined (net : Network) (t : ℕ) (cells halo connectors : List ℕ) (first places : List Place) (links : List FollowedLink) (others : List FollowedConnector) : Type 0 where
-  pub only_most : (q : ℕ) → place_at places q ≡ record (place_at first q) { most = (place_at places q).most }
+-- the states keep all but their most
+pub record AreJoined (net : Network) (t : ℕ) (cells halo connectors : List ℕ) (first states : List CellState) (links : List FollowedLink) (others : List FollowedConnector) : Type 0 where
+  pub only_most : (q : ℕ) → cell_state_at states q ≡ record (cell_state_at first q) { most = (cell_state_at states q).most }
   pub links_there : All (IsLinkThere (length cells) t) links
   pub joined : All (λ link. is_joined net cells connectors link.place ≡ true) links
-  pub followed : AreFollowed (most_out net cells connectors) places links t
+  pub followed : AreFollowed (most_out net cells connectors) states links t
   pub numbers : map (λ followed. followed.number) others ≡ odd_ones net cells connectors
-  pub connected : All (IsConnected net cells halo) others
+  pub connected : All (IsConnectorAmong net cells halo) others
   pub come : All (λ followed. followed.timeline.step ≤ t) others
 
-pub joined-none : (net : Network) (t : ℕ) (cells halo connectors : List ℕ) (places : List Place) → ((p : ℕ) → (place_at places p).most ≡ 0) →
-    AreJoined net t cells halo (take 0 connectors) places places [] []
-joined-none net t cells halo connectors places none = record {
+pub joined-none : (net : Network) (t : ℕ) (cells halo connectors : List ℕ) (states : List CellState) → ((p : ℕ) → (cell_state_at states p).most ≡ 0) →
+    AreJoined net t cells halo (take 0 connectors) states states [] []
+joined-none net t cells halo connectors states none = record {
   only_most = λ q. refl;
   links_there = λ k d within. absurd (omega arith);
   joined = λ k d within. absurd (omega arith);
-  followed = followed-none net cells connectors places t none;
+  followed = followed-none net cells connectors states t none;
   numbers = refl;
   connected = λ k d within. absurd (omega arith);
   come = λ k d within. absurd (omega arith);
 }
 
 -- a chained connector more
-pub joined-chained : (net : Network) (t : ℕ) (cells halo connectors : List ℕ) (first places after : List Place) (links later : List FollowedLink) (others : List FollowedConnector)
+pub joined-chained : (net : Network) (t : ℕ) (cells halo connectors : List ℕ) (first states after : List CellState) (links later : List FollowedLink) (others : List FollowedConnector)
     (j p : ℕ) → j < length connectors → AreDistinct cells → is_link cells p (connector_at net.connectors (get_or connectors j 0)) ≡ true →
-    AreJoined net t cells halo (take j connectors) first places links others → All (IsLinkThere (length cells) t) later → IsAt p links later →
-    ((q : ℕ) → place_at after q ≡ record (place_at places q) { most = (place_at after q).most }) →
-    ((most next : ℕ → ℕ → ℕ) → AreFollowed most places links t → Extends net.plan cells p links most next → AreFollowed next after later t) →
+    AreJoined net t cells halo (take j connectors) first states links others → All (IsLinkThere (length cells) t) later → IsAt p links later →
+    ((q : ℕ) → cell_state_at after q ≡ record (cell_state_at states q) { most = (cell_state_at after q).most }) →
+    ((most next : ℕ → ℕ → ℕ) → AreFollowed most states links t → Extends net.plan cells p links most next → AreFollowed next after later t) →
     AreJoined net t cells halo (take (j + 1) connectors) first after later others
-joined-chained net t cells halo connectors first places after links later others j p within distinct linked has there at only follows =
+joined-chained net t cells halo connectors first states after links later others j p within distinct linked has there at only follows =
     let connector : Connector = connector_at net.connectors (get_or connectors j 0) in
     let at_link = link-is cells p connector linked in
     let inside = at_link.within in
     let chained : is_chained cells connector ≡ true =
     finds (λ m. is_link cells m connector) (range_with_len 0 (length cells)) p (range-Contains (length cells) p (omega arith)) linked in
     record {
-      only_most = λ q. only q ∙ ap {B = Place} (λ place. record place { most = (place_at after q).most }) (has.only_most q);
+      only_most = λ q. only q ∙ ap {B = CellState} (λ state. record state { most = (cell_state_at after q).most }) (has.only_most q);
       links_there = there;
       joined = at.each (is_joined net cells (take (j + 1) connectors))
           (λ k d lt. joined-more net cells connectors j (get_or links k d).place within ∙ ap (λ b. b || is_link cells (get_or links k d).place connector) (has.joined k d lt))
@@ -197,21 +197,21 @@ joined-chained net t cells halo connectors first places after links later others
     }
 
 -- another more
-pub joined-odd : (net : Network) (t : ℕ) (cells halo connectors : List ℕ) (first places : List Place) (links : List FollowedLink) (others : List FollowedConnector) (followed : FollowedConnector)
+pub joined-odd : (net : Network) (t : ℕ) (cells halo connectors : List ℕ) (first states : List CellState) (links : List FollowedLink) (others : List FollowedConnector) (followed : FollowedConnector)
     (j : ℕ) → j < length connectors → is_chained cells (connector_at net.connectors (get_or connectors j 0)) ≡ false →
-    followed.number ≡ get_or connectors j 0 → IsConnected net cells halo followed → followed.timeline.step ≡ 0 →
-    AreJoined net t cells halo (take j connectors) first places links others →
-    AreJoined net t cells halo (take (j + 1) connectors) first places links (others ++ followed ∷ [])
-joined-odd net t cells halo connectors first places links others followed j within odd number connected step has = record {
+    followed.number ≡ get_or connectors j 0 → IsConnectorAmong net cells halo followed → followed.timeline.step ≡ 0 →
+    AreJoined net t cells halo (take j connectors) first states links others →
+    AreJoined net t cells halo (take (j + 1) connectors) first states links (others ++ followed ∷ [])
+joined-odd net t cells halo connectors first states links others followed j within odd number connected step has = record {
   only_most = has.only_most;
   links_there = has.links_there;
   joined = λ k d lt.
       joined-more net cells connectors j (get_or links k d).place within
       ∙ ap (λ b. b || is_link cells (get_or links k d).place (connector_at net.connectors (get_or connectors j 0))) (has.joined k d lt);
-  followed = followed-same (most_out net cells (take j connectors)) (most_out net cells (take (j + 1) connectors)) places links t
+  followed = followed-same (most_out net cells (take j connectors)) (most_out net cells (take (j + 1) connectors)) states links t
       (λ q s. unchained-more net cells connectors j q s within odd) has.followed;
   numbers = map-append (λ followed. followed.number) others (followed ∷ []) ∙ ap (λ list. list ++ followed.number ∷ []) has.numbers
       ∙ ap (λ k. odd_ones net cells (take j connectors) ++ k ∷ []) number ∙ sym (odd-more net cells connectors j false within odd);
-  connected = All-push (IsConnected net cells halo) others followed has.connected connected;
+  connected = All-push (IsConnectorAmong net cells halo) others followed has.connected connected;
   come = All-push (λ followed. followed.timeline.step ≤ t) others followed has.come (omega arith);
 }

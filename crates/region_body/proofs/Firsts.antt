@@ -1,4 +1,4 @@
--- The place of a cell as it is opened has the cell's row.
+-- The state of a cell as it is opened makes the cell's row.
 use Rattle.std.specs.Prelude.{All, map, slice_index}
 use Rattle.std.proofs.Common.{◌≡◌, ℕ, ◌<◌, ◌≤◌, inl, inr, true, false, List, length, refl, sym, ap, subst, ◌∙◌, arith}
 use Rattle.std.proofs.lemmas.Bool.{cases_Bool}
@@ -11,9 +11,9 @@ use Rattle.flow_model.specs.Rows.{empty_row}
 use Rattle.flow_model.specs.State.{row_at}
 use Rattle.flow_model.specs.declared.row.Row.{Row}
 use Rattle.flow_model.proofs.Bounds.{small}
-use Rattle.region_body.specs.Places.{place_at}
+use Rattle.region_body.specs.CellStates.{cell_state_at}
 use Rattle.connector_flow.specs.Space.{IsSpaceOf}
-use Rattle.region_body.specs.declared.place.Place.{Place}
+use Rattle.region_body.specs.declared.cell_state.CellState.{CellState}
 use Rattle.region_body.proofs.LinkFlows.{held-fits}
 use Rattle.region_body.specs.First.{AreConstantsOf, IsFirst}
 use Rattle.region_body.specs.Rows.{AreSettled, IsOf, constants_at, row_of, rows_of}
@@ -25,15 +25,15 @@ row_same : (row : Row) {n come gone wait : ℕ} → n ≡ row.n → come ≡ row
     record { n = n; come = come; gone = gone; wait = wait } ≡ row
 row_same row e1 e2 e3 e4 = rw (e1, e2, e3, e4) refl
 
-pub first-row : (net : Network) (t i : ℕ) (row : Row) (constants : CellConstants) (place : Place) → AreConstantsOf net i constants → IsFirst net i row place →
-    IsRowInBounds net t i row → (row_of constants place ≡ row) × IsOf net i constants place
-first-row net t i row constants place constants_are place_is bounds = elim (cases_Bool constants.is_exit) [
+pub first-row : (net : Network) (t i : ℕ) (row : Row) (constants : CellConstants) (state : CellState) → AreConstantsOf net i constants → IsFirst net i row state →
+    IsRowInBounds net t i row → (row_of constants state ≡ row) × IsOf net i constants state
+first-row net t i row constants state constants_are state_is bounds = elim (cases_Bool constants.is_exit) [
   | inl exit ↦
       let at : is_exit_at net.cells i ≡ true = sym constants_are.exit ∙ exit in
       let come = bounds.exit_come at in
       let wait = bounds.exit_wait at in
-      let n = place_is.n in
-      let gone = place_is.gone in (
+      let n = state_is.n in
+      let gone = state_is.gone in (
         rw exit (row_same row n (n ∙ sym come) gone (sym wait)),
         record {
           first = constants_are.first;
@@ -45,9 +45,9 @@ first-row net t i row constants place constants_are place_is bounds = elim (case
   | inr other ↦
       let at : is_exit_at net.cells i ≡ false = sym constants_are.exit ∙ other in
       let balance = bounds.balance at in
-      let n = place_is.n in
-      let gone = place_is.gone in
-      let held = place_is.held in
+      let n = state_is.n in
+      let gone = state_is.gone in
+      let held = state_is.held in
       let first = constants_are.first in (
         rw other (row_same row n (omega arith) gone (omega arith)),
         record {
@@ -60,7 +60,7 @@ first-row net t i row constants place constants_are place_is bounds = elim (case
 ]
 
 -- all cells as they are opened
-pub record AreOpened (net : Network) (t : ℕ) (cells : List ℕ) (rows : List Row) (constants : List CellConstants) (first after : List Place) : Type 0 where
+pub record AreOpened (net : Network) (t : ℕ) (cells : List ℕ) (rows : List Row) (constants : List CellConstants) (first after : List CellState) : Type 0 where
   pub sound : IsNetwork net
   pub in_time : t ≤ net.steps
   pub there : All (λ i. i < length net.cells) cells
@@ -69,19 +69,19 @@ pub record AreOpened (net : Network) (t : ℕ) (cells : List ℕ) (rows : List R
   pub first_each : length first ≡ length cells
   pub after_each : length after ≡ length first
   pub constants_are : (p : ℕ) → p < length cells → AreConstantsOf net (slice_index cells p) (constants_at constants p)
-  pub first_is : (p : ℕ) → p < length cells → IsFirst net (slice_index cells p) (row_at rows (slice_index cells p)) (place_at first p)
-  pub only_most : (p : ℕ) → place_at after p ≡ record (place_at first p) { most = (place_at after p).most }
+  pub first_is : (p : ℕ) → p < length cells → IsFirst net (slice_index cells p) (row_at rows (slice_index cells p)) (cell_state_at first p)
+  pub only_most : (p : ℕ) → cell_state_at after p ≡ record (cell_state_at first p) { most = (cell_state_at after p).most }
 
-pub opened-cell : (net : Network) (t : ℕ) (cells : List ℕ) (rows : List Row) (constants : List CellConstants) (first after : List Place) (p : ℕ) →
+pub opened-cell : (net : Network) (t : ℕ) (cells : List ℕ) (rows : List Row) (constants : List CellConstants) (first after : List CellState) (p : ℕ) →
     AreOpened net t cells rows constants first after → p < length cells →
-    (row_of (constants_at constants p) (place_at after p) ≡ row_at rows (slice_index cells p)) × IsOf net (slice_index cells p) (constants_at constants p) (place_at after p)
+    (row_of (constants_at constants p) (cell_state_at after p) ≡ row_at rows (slice_index cells p)) × IsOf net (slice_index cells p) (constants_at constants p) (cell_state_at after p)
 opened-cell net t cells rows constants first after p opened within =
     let i : ℕ = slice_index cells p in
-    let is = first-row net t i (row_at rows i) (constants_at constants p) (place_at first p) (opened.constants_are p within) (opened.first_is p within) (opened.bounds p 0 within) in
+    let is = first-row net t i (row_at rows i) (constants_at constants p) (cell_state_at first p) (opened.constants_are p within) (opened.first_is p within) (opened.bounds p 0 within) in
     let of_cell = is.1 in
     rw (opened.only_most p) (is.0, record { first = of_cell.first; exit = of_cell.exit; began = of_cell.began; sums = of_cell.sums })
 
-pub opened-rows : (net : Network) (t : ℕ) (cells : List ℕ) (rows : List Row) (constants : List CellConstants) (first after : List Place) →
+pub opened-rows : (net : Network) (t : ℕ) (cells : List ℕ) (rows : List Row) (constants : List CellConstants) (first after : List CellState) →
     AreOpened net t cells rows constants first after → rows_of constants after ≡ map (row_at rows) cells
 opened-rows net t cells rows constants first after opened =
     ext_get_or empty_row (rows_of constants after) (map (row_at rows) cells)
@@ -93,7 +93,7 @@ opened-rows net t cells rows constants first after opened =
     ∙ (opened-cell net t cells rows constants first after p opened within).0
     ∙ sym (get_or-map (row_at rows) cells p 0 empty_row within))
 
-pub opened-settled : (net : Network) (t : ℕ) (cells : List ℕ) (rows : List Row) (constants : List CellConstants) (first after : List Place) (before : List ℕ) →
+pub opened-settled : (net : Network) (t : ℕ) (cells : List ℕ) (rows : List Row) (constants : List CellConstants) (first after : List CellState) (before : List ℕ) →
     AreOpened net t cells rows constants first after → length before ≡ length cells → AreSettled constants after before
 opened-settled net t cells rows constants first after before opened long = record {
   one_each = opened.after_each ∙ opened.first_each ∙ sym opened.constants_each;
@@ -107,14 +107,14 @@ opened-settled net t cells rows constants first after before opened long = recor
       let gone = ap (λ row. row.gone) cell.0 in
       let few_n = few.n in
       let few_gone = few.gone in
-      let space : IsSpaceOf (place_at after p).space (room_at net.cells i) =
-      subst (λ space. IsSpaceOf space (room_at net.cells i)) (sym (ap (λ place. place.space) (opened.only_most p))) (opened.first_is p within).space in
-      let held : IsHeldInBounds net t i (place_at after p).n = subst (IsHeldInBounds net t i) (sym n) (opened.bounds p 0 within).held in
+      let space : IsSpaceOf (cell_state_at after p).space (room_at net.cells i) =
+      subst (λ space. IsSpaceOf space (room_at net.cells i)) (sym (ap (λ state. state.space) (opened.only_most p))) (opened.first_is p within).space in
+      let held : IsHeldInBounds net t i (cell_state_at after p).n = subst (IsHeldInBounds net t i) (sym n) (opened.bounds p 0 within).held in
       record {
         began = cell.1.began;
         sums = cell.1.sums;
         fits = omega arith;
-        room = held-fits (place_at after p).n 0 (place_at after p).space (room_at net.cells i) space
-            (has-space net t i (place_at after p).n 0 opened.sound opened.in_time (opened.there p 0 within) held (omega arith));
+        room = held-fits (cell_state_at after p).n 0 (cell_state_at after p).space (room_at net.cells i) space
+            (has-space net t i (cell_state_at after p).n 0 opened.sound opened.in_time (opened.there p 0 within) held (omega arith));
       };
 }

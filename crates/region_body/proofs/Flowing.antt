@@ -1,4 +1,4 @@
--- What leaves a cell and what enters it in a step, by the link between places and by the other connectors.
+-- What leaves a cell and what enters it in a step, by the link between neighbours and by the other connectors.
 use Rattle.std.specs.Prelude.{Bool, not, ◌⊎◌, eqb, min, slice_index, if◌then◌else◌}
 use Rattle.std.specs.List.{Contains, filter, list_any, range_with_len, sum_by}
 use Rattle.std.proofs.Common.{◌≡◌, ℕ, zero, suc, ◌+◌, ◌<◌, inl, inr, true, false, List, [], ◌∷◌, length, get_or, refl, sym, ap, ◌∙◌, subst, add-one, arith}
@@ -19,13 +19,13 @@ use Rattle.network_file.proofs.NetworkFacts.{connector_at-sound}
 use Rattle.flow_model.proofs.CellFlows.{inflow-by, outflow-by}
 use Rattle.flow_model.proofs.Connectors.{entering-other, leaving-other}
 use Rattle.flow_model.proofs.Locality.{leads_into-touches, leads_out_of-touches}
-use Rattle.region_body.specs.Places.{link_in, link_out, place_at}
+use Rattle.region_body.specs.CellStates.{link_in, link_out, cell_state_at}
 use Rattle.connector_flow.specs.Space.{HasSpace, IsSpaceOf}
-use Rattle.region_body.specs.declared.place.Place.{Place}
+use Rattle.region_body.specs.declared.cell_state.CellState.{CellState}
 use Rattle.timelines.specs.Links.{most_between}
 use Rattle.region_cut.proofs.Anys.{found, finds, not_false}
 use Rattle.region_cut.proofs.Ranges.{Contains-filter_range, filter_range-Contains, range-Contains}
-use Rattle.region_body.specs.Moves.{in_by, out_by}
+use Rattle.region_body.proofs.Moves.{in_by, out_by}
 use Rattle.region_body.specs.Chains.{AreAround, AreDistinct, is_chained, is_joined, is_link, most_out, odd_ones}
 use Rattle.region_body.proofs.Links.{IsLinkAt, carried-link, carried-none, entering-link, leaving-link, link-is}
 use Rattle.region_body.proofs.Shares.{in_range, sum-all, sum-none}
@@ -45,14 +45,14 @@ one_of a b listed = elim (cases_Bool (eqb a b)) [
   | inr other ↦ let none = rw other at listed in cc
 ]
 
--- each place has what its cell holds and its cell's space, and can send what limits and speed let its link carry
-pub record HasPlaces (net : Network) (t : ℕ) (n : ℕ → ℕ) (cells connectors : List ℕ) (places : List Place) : Type 0 where
-  pub one_each : length places ≡ length cells
-  pub held : (p : ℕ) → p < length cells → (place_at places p).n ≡ n (slice_index cells p)
-  pub space : (p : ℕ) → p < length cells → IsSpaceOf (place_at places p).space (room_at net.cells (slice_index cells p))
+-- each state has what its cell holds and its cell's space, and can send what limits and speed let its link carry
+pub record HaveStates (net : Network) (t : ℕ) (n : ℕ → ℕ) (cells connectors : List ℕ) (states : List CellState) : Type 0 where
+  pub one_each : length states ≡ length cells
+  pub held : (p : ℕ) → p < length cells → (cell_state_at states p).n ≡ n (slice_index cells p)
+  pub space : (p : ℕ) → p < length cells → IsSpaceOf (cell_state_at states p).space (room_at net.cells (slice_index cells p))
   pub fits : (p : ℕ) → p < length cells →
-      HasSpace (place_at places p).n (capacity_at net.plan (slice_index cells p) t) (room_at net.cells (slice_index cells p))
-  pub sends : (p : ℕ) → p < length cells → min (place_at places p).most (place_at places p).n ≡
+      HasSpace (cell_state_at states p).n (capacity_at net.plan (slice_index cells p) t) (room_at net.cells (slice_index cells p))
+  pub sends : (p : ℕ) → p < length cells → min (cell_state_at states p).most (cell_state_at states p).n ≡
       min (most_out net cells connectors p t) (arriving (speed_at net.plan (slice_index cells p) t) (n (slice_index cells p)))
 
 -- the connector that joins the p-th cell to the next
@@ -108,8 +108,8 @@ chained-out cells p connector distinct within chained out =
     let out_here : leads_out_of (slice_index cells p) (Link (slice_index cells q) (slice_index cells (q + 1))) ≡ true =
     subst (λ c. leads_out_of (slice_index cells p) c ≡ true) at.is out in
     let same : slice_index cells p ≡ slice_index cells q = one_of (slice_index cells p) (slice_index cells q) out_here in
-    let place : q ≡ p = distinct q p (omega arith) within (sym same) in
-    subst (λ m. is_link cells m connector ≡ true) place some.2
+    let state : q ≡ p = distinct q p (omega arith) within (sym same) in
+    subst (λ m. is_link cells m connector ≡ true) state some.2
 
 -- and into the p-th cell it joins the one before to it
 chained-into : (cells : List ℕ) (p : ℕ) (connector : Connector) → AreDistinct cells → p < length cells → is_chained cells connector ≡ true →
@@ -122,41 +122,41 @@ chained-into cells p connector distinct within chained into =
     let into_here : leads_into (slice_index cells p) (Link (slice_index cells q) (slice_index cells (q + 1))) ≡ true =
     subst (λ c. leads_into (slice_index cells p) c ≡ true) at.is into in
     let same : slice_index cells p ≡ slice_index cells (q + 1) = one_of (slice_index cells p) (slice_index cells (q + 1)) into_here in
-    let place : q + 1 ≡ p = distinct (q + 1) p (omega arith) within (sym same) in
-    (q, place, some.2)
+    let state : q + 1 ≡ p = distinct (q + 1) p (omega arith) within (sym same) in
+    (q, state, some.2)
 
 -- what the link out of the p-th cell can carry at most, by whether it is joined to the next
-sent-by : (net : Network) (t : ℕ) (n : ℕ → ℕ) (cells connectors : List ℕ) (places : List Place) (p : ℕ) (joined : Bool) → HasPlaces net t n cells connectors places →
+sent-by : (net : Network) (t : ℕ) (n : ℕ → ℕ) (cells connectors : List ℕ) (states : List CellState) (p : ℕ) (joined : Bool) → HaveStates net t n cells connectors states →
     p < length cells → is_joined net cells connectors p ≡ joined →
-    min (place_at places p).most (place_at places p).n ≡
+    min (cell_state_at states p).most (cell_state_at states p).n ≡
     min (if joined then most_between net.plan (slice_index cells p) (slice_index cells (p + 1)) t else 0)
     (arriving (speed_at net.plan (slice_index cells p) t) (n (slice_index cells p)))
 unfolding most_out
-sent-by net t n cells connectors places p joined has within is =
+sent-by net t n cells connectors states p joined has within is =
     has.sends p within
     ∙ ap (λ b. min (if b then most_between net.plan (slice_index cells p) (slice_index cells (p + 1)) t else 0)
     (arriving (speed_at net.plan (slice_index cells p) t) (n (slice_index cells p)))) is
 
 -- where nothing joins a cell to the next, its place's link carries nothing
-most-none : (net : Network) (t : ℕ) (n : ℕ → ℕ) (cells connectors : List ℕ) (places : List Place) (p : ℕ) → HasPlaces net t n cells connectors places →
-    p < length cells → is_joined net cells connectors p ≡ false → link_out places p ≡ 0
+most-none : (net : Network) (t : ℕ) (n : ℕ → ℕ) (cells connectors : List ℕ) (states : List CellState) (p : ℕ) → HaveStates net t n cells connectors states →
+    p < length cells → is_joined net cells connectors p ≡ false → link_out states p ≡ 0
 unfolding link_out
-most-none net t n cells connectors places p has within apart =
-    carried-none (place_at places p) (place_at places (p + 1))
-    (sent-by net t n cells connectors places p false has within apart ∙ none (arriving (speed_at net.plan (slice_index cells p) t) (n (slice_index cells p))))
+most-none net t n cells connectors states p has within apart =
+    carried-none (cell_state_at states p) (cell_state_at states (p + 1))
+    (sent-by net t n cells connectors states p false has within apart ∙ none (arriving (speed_at net.plan (slice_index cells p) t) (n (slice_index cells p))))
   where
     none : (x : ℕ) → min 0 x ≡ 0
     none x = omega arith
 
 -- and else it carries the flow of the link
-most-joined : (net : Network) (t : ℕ) (n : ℕ → ℕ) (cells connectors : List ℕ) (places : List Place) (p : ℕ) → HasPlaces net t n cells connectors places →
+most-joined : (net : Network) (t : ℕ) (n : ℕ → ℕ) (cells connectors : List ℕ) (states : List CellState) (p : ℕ) → HaveStates net t n cells connectors states →
     p + 1 < length cells → is_joined net cells connectors p ≡ true →
-    link_out places p ≡ min (sending_at net t (slice_index cells p) (n (slice_index cells p)))
+    link_out states p ≡ min (sending_at net t (slice_index cells p) (n (slice_index cells p)))
     (receiving_at net t (slice_index cells (p + 1)) (n (slice_index cells (p + 1))))
 unfolding link_out
-most-joined net t n cells connectors places p has within joined =
-    carried-link net t (slice_index cells p) (slice_index cells (p + 1)) n (place_at places p) (place_at places (p + 1))
-    (sent-by net t n cells connectors places p true has (omega arith) joined) (has.held (p + 1) within) (has.space (p + 1) within) (has.fits (p + 1) within)
+most-joined net t n cells connectors states p has within joined =
+    carried-link net t (slice_index cells p) (slice_index cells (p + 1)) n (cell_state_at states p) (cell_state_at states (p + 1))
+    (sent-by net t n cells connectors states p true has (omega arith) joined) (has.held (p + 1) within) (has.space (p + 1) within) (has.fits (p + 1) within)
 
 own-cell : (cells : List ℕ) (p : ℕ) → p < length cells → Contains cells (slice_index cells p)
 own-cell cells p within = Contains-get_or cells p 0 within
@@ -193,10 +193,10 @@ odd-all net cells connectors f around each =
     ])
 
 -- what leaves a cell: by the link of its place, and by the connectors that are not chained
-pub out-total : (net : Network) (t : ℕ) (n : ℕ → ℕ) (cells connectors : List ℕ) (places : List Place) (p : ℕ) → IsNetwork net →
-    AreAround net cells connectors → HasPlaces net t n cells connectors places → p < length cells →
-    link_out places p + odd_sum net cells connectors (out_by net t n (slice_index cells p)) ≡ outflow net t n (slice_index cells p)
-out-total net t n cells connectors places p sound around has within = elim (cases_Bool (is_joined net cells connectors p)) [
+pub out-total : (net : Network) (t : ℕ) (n : ℕ → ℕ) (cells connectors : List ℕ) (states : List CellState) (p : ℕ) → IsNetwork net →
+    AreAround net cells connectors → HaveStates net t n cells connectors states → p < length cells →
+    link_out states p + odd_sum net cells connectors (out_by net t n (slice_index cells p)) ≡ outflow net t n (slice_index cells p)
+out-total net t n cells connectors states p sound around has within = elim (cases_Bool (is_joined net cells connectors p)) [
   | inl joined ↦
       let i : ℕ = slice_index cells p in
       let here = join net cells connectors p around joined in
@@ -204,13 +204,13 @@ out-total net t n cells connectors places p sound around has within = elim (case
       let out : leads_out_of i (connector_at net.connectors k) ≡ true = rw here.at.is (leads_out_of-link i (slice_index cells (p + 1))) in
       let by = outflow-by net t k i n sound here.there out in
       let odd = odd-none net cells connectors (out_by net t n i) k around here.there here.chained (sym (outflow-sum net t i n) ∙ by) in
-      let link : out_by net t n i k ≡ link_out places p =
+      let link : out_by net t n i k ≡ link_out states p =
       ap (λ c. leaving i c (flow_of net t n c)) here.at.is ∙ leaving-link i (slice_index cells (p + 1)) net t n
-      ∙ sym (most-joined net t n cells connectors places p has here.at.within joined) in
+      ∙ sym (most-joined net t n cells connectors states p has here.at.within joined) in
       omega arith
   | inr apart ↦
       let i : ℕ = slice_index cells p in
-      let none = most-none net t n cells connectors places p has within apart in
+      let none = most-none net t n cells connectors states p has within apart in
       let odd = odd-all net cells connectors (out_by net t n i) around (λ k below. elim (cases_Bool (leads_out_of i (connector_at net.connectors k))) [
         | inr other ↦ inl (leaving-other i (connector_at net.connectors k) (flow_of net t n (connector_at net.connectors k)) other)
         | inl out ↦
@@ -229,11 +229,11 @@ out-total net t n cells connectors places p sound around has within = elim (case
 ]
 
 -- the place before, whose link leads into the p-th cell
-before-joined : (net : Network) (t : ℕ) (n : ℕ → ℕ) (cells connectors : List ℕ) (places : List Place) (q : ℕ) → IsNetwork net →
-    AreAround net cells connectors → HasPlaces net t n cells connectors places → is_joined net cells connectors q ≡ true →
+before-joined : (net : Network) (t : ℕ) (n : ℕ → ℕ) (cells connectors : List ℕ) (states : List CellState) (q : ℕ) → IsNetwork net →
+    AreAround net cells connectors → HaveStates net t n cells connectors states → is_joined net cells connectors q ≡ true →
     is_gate_at net.cells (slice_index cells (q + 1)) ≡ false →
-    link_out places q + odd_sum net cells connectors (in_by net t n (slice_index cells (q + 1))) ≡ inflow net t n (slice_index cells (q + 1))
-before-joined net t n cells connectors places q sound around has joined no_gate =
+    link_out states q + odd_sum net cells connectors (in_by net t n (slice_index cells (q + 1))) ≡ inflow net t n (slice_index cells (q + 1))
+before-joined net t n cells connectors states q sound around has joined no_gate =
     let up : ℕ = slice_index cells q in
     let i : ℕ = slice_index cells (q + 1) in
     let here = join net cells connectors q around joined in
@@ -241,9 +241,9 @@ before-joined net t n cells connectors places q sound around has joined no_gate 
     let into : leads_into i (connector_at net.connectors k) ≡ true = rw here.at.is (leads_into-link up i) in
     let by = inflow-by net t k i n sound here.there into no_gate in
     let odd = odd-none net cells connectors (in_by net t n i) k around here.there here.chained (sym (inflow-sum net t i n no_gate) ∙ by) in
-    let link : in_by net t n i k ≡ link_out places q =
+    let link : in_by net t n i k ≡ link_out states q =
     ap (λ c. entering i c (flow_of net t n c)) here.at.is ∙ entering-link up i net t n
-    ∙ sym (most-joined net t n cells connectors places q has here.at.within joined) in
+    ∙ sym (most-joined net t n cells connectors states q has here.at.within joined) in
     omega arith
 
 -- no chained connector leads into the p-th cell
@@ -273,21 +273,21 @@ none-before net t n cells connectors p around within no_gate none =
     ]) ∙ sym (inflow-sum net t i n no_gate)
 
 -- what connectors bring to a cell: by the link of the place before, and by the connectors that are not chained
-pub in-total : (net : Network) (t : ℕ) (n : ℕ → ℕ) (cells connectors : List ℕ) (places : List Place) (p : ℕ) → IsNetwork net →
-    AreAround net cells connectors → HasPlaces net t n cells connectors places → p < length cells →
+pub in-total : (net : Network) (t : ℕ) (n : ℕ → ℕ) (cells connectors : List ℕ) (states : List CellState) (p : ℕ) → IsNetwork net →
+    AreAround net cells connectors → HaveStates net t n cells connectors states → p < length cells →
     is_gate_at net.cells (slice_index cells p) ≡ false →
-    link_in places p + odd_sum net cells connectors (in_by net t n (slice_index cells p)) ≡ inflow net t n (slice_index cells p)
+    link_in states p + odd_sum net cells connectors (in_by net t n (slice_index cells p)) ≡ inflow net t n (slice_index cells p)
 unfolding link_in NoneBefore
-in-total net t n cells connectors places zero sound around has within no_gate =
+in-total net t n cells connectors states zero sound around has within no_gate =
     let all = none-before net t n cells connectors 0 around within no_gate (λ q before. absurd (omega arith)) in omega arith
-in-total net t n cells connectors places (suc q) sound around has within no_gate =
+in-total net t n cells connectors states (suc q) sound around has within no_gate =
     let next : suc q ≡ q + 1 = sym (add-one q) in
     elim (cases_Bool (is_joined net cells connectors q)) [
       | inl joined ↦
           let no_gate_next = rw next at no_gate in
-          rw next (before-joined net t n cells connectors places q sound around has joined no_gate_next)
+          rw next (before-joined net t n cells connectors states q sound around has joined no_gate_next)
       | inr apart ↦
-          let none = most-none net t n cells connectors places q has (omega arith) apart in
+          let none = most-none net t n cells connectors states q has (omega arith) apart in
           let all = none-before net t n cells connectors (suc q) around within no_gate
           (λ m before. let same : m ≡ q = omega arith in subst (λ k. is_joined net cells connectors k ≡ false) (sym same) apart) in
           omega arith
@@ -304,14 +304,14 @@ odd-gate net t i n cells connectors sound around gate =
     ∙ sum_by-zero (in_by net t n i) (range_with_len 0 (length net.connectors))
     (λ m d inside. let is = none (get_or (range_with_len 0 (length net.connectors)) m d) (in_range (length net.connectors) m d inside) in omega arith)
 
-pub in-gate : (net : Network) (t : ℕ) (n : ℕ → ℕ) (cells connectors : List ℕ) (places : List Place) (p : ℕ) → IsNetwork net →
-    AreAround net cells connectors → HasPlaces net t n cells connectors places → p < length cells →
+pub in-gate : (net : Network) (t : ℕ) (n : ℕ → ℕ) (cells connectors : List ℕ) (states : List CellState) (p : ℕ) → IsNetwork net →
+    AreAround net cells connectors → HaveStates net t n cells connectors states → p < length cells →
     is_gate_at net.cells (slice_index cells p) ≡ true →
-    (link_in places p ≡ 0) × (odd_sum net cells connectors (in_by net t n (slice_index cells p)) ≡ 0)
+    (link_in states p ≡ 0) × (odd_sum net cells connectors (in_by net t n (slice_index cells p)) ≡ 0)
 unfolding link_in
-in-gate net t n cells connectors places zero sound around has within gate =
+in-gate net t n cells connectors states zero sound around has within gate =
     (refl, odd-gate net t (slice_index cells 0) n cells connectors sound around gate)
-in-gate net t n cells connectors places (suc q) sound around has within gate =
+in-gate net t n cells connectors states (suc q) sound around has within gate =
     let next : suc q ≡ q + 1 = sym (add-one q) in (
       elim (cases_Bool (is_joined net cells connectors q)) [
         | inl joined ↦
@@ -320,7 +320,7 @@ in-gate net t n cells connectors places (suc q) sound around has within gate =
             let into : leads_into (slice_index cells (q + 1)) connector ≡ true = rw here.at.is (leads_into-link (slice_index cells q) (slice_index cells (q + 1))) in
             let never = leads_into-gate net (slice_index cells (q + 1)) connector (connector_at-sound net here.number sound here.there) (rw next at gate) in
             cc
-        | inr apart ↦ most-none net t n cells connectors places q has (omega arith) apart
+        | inr apart ↦ most-none net t n cells connectors states q has (omega arith) apart
       ],
       odd-gate net t (slice_index cells (suc q)) n cells connectors sound around gate,
     )

@@ -4,8 +4,7 @@ use Rattle.std.proofs.Common.{◌≡◌, ℕ, ◌+◌, ◌<◌, ◌≤◌, inl, 
 use Rattle.std.proofs.lemmas.Bool.{cases_eq}
 use Rattle.std.proofs.lemmas.List.{get_or-set_other, get_or-set_same, length-set}
 use Rattle.network_file.specs.Network.{Network}
-use Rattle.region_body.specs.Carrying.{AreConnectorsFollowed, IsConnected, IsConnectorFollowed}
-use Rattle.region_body.specs.Moves.{AreConnected}
+use Rattle.region_body.specs.Carrying.{AreConnectorsAmong, AreConnectorsFollowed, IsConnectorAmong, IsConnectorFollowed}
 use Rattle.region_body.specs.declared.followed_connector.FollowedConnector.{FollowedConnector}
 use Rattle.region_body.proofs.SameMaps.{map-same}
 
@@ -52,7 +51,7 @@ followed-yet t until connectors come unchanged before = record {
 }
 
 -- one that was followed is that of the network still
-connector-followed : (net : Network) (cells halo : List ℕ) (t : ℕ) (old new : FollowedConnector) → IsConnected net cells halo old → IsConnectorFollowed t old new → IsConnected net cells halo new
+connector-followed : (net : Network) (cells halo : List ℕ) (t : ℕ) (old new : FollowedConnector) → IsConnectorAmong net cells halo old → IsConnectorFollowed t old new → IsConnectorAmong net cells halo new
 connector-followed net cells halo t old new connector carried = record {
   there = rw carried.number connector.there;
   refs = rw (carried.number, carried.cells) connector.refs;
@@ -62,8 +61,8 @@ connector-followed net cells halo t old new connector carried = record {
   });
 }
 
-pub connected-followed : (net : Network) (cells halo : List ℕ) (t : ℕ) (old new : List FollowedConnector) → AreConnected net cells halo old → AreConnectorsFollowed t old new →
-    AreConnected net cells halo new
+pub connected-followed : (net : Network) (cells halo : List ℕ) (t : ℕ) (old new : List FollowedConnector) → AreConnectorsAmong net cells halo old → AreConnectorsFollowed t old new →
+    AreConnectorsAmong net cells halo new
 connected-followed net cells halo t old new connected carried = record {
   distinct = connected.distinct;
   apart = connected.apart;

@@ -8,7 +8,7 @@ use Rattle.signal_plan.proofs.Sums.{sum_by-same}
 use Rattle.signal_plan.specs.Demand.{demand_at}
 use Rattle.network_file.specs.Network.{Network}
 use Rattle.region_body.specs.Gates.{AreAsked, AreGatesKept, IsGateOf, IsGateKept, demand_into}
-use Rattle.region_body.specs.Moves.{demand_for}
+use Rattle.region_body.proofs.Moves.{demand_for}
 use Rattle.region_body.specs.declared.gate.GatePlace.{GatePlace}
 use Rattle.region_body.proofs.SameMaps.{map-same, sum_by-map}
 

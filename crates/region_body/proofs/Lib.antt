@@ -10,7 +10,8 @@ pub mod Shares
 pub mod Links
 pub mod Flowing
 pub mod Stepping
-pub mod MovedPlaces
+pub mod MovedStates
+pub mod Moves
 pub mod Ruled
 pub mod Parting
 pub mod SameMaps

@@ -1,4 +1,4 @@
--- The flow between two places is that of the link between their cells.
+-- The flow between two states is that of the link between their cells.
 use Rattle.std.specs.Prelude.{if◌then◌else◌}
 use Rattle.std.proofs.Common.{◌≡◌, ℕ, ◌≤◌, Bool, true, false, Option, Some, None, min, arith}
 use Rattle.ordinary_link.specs.Flows.{receiving_flow, sending_flow}
@@ -22,7 +22,7 @@ link_flow-is q_up q_down n_up n_down true space None is has =
     lesser_boundless q_up q_down n_up (let_in space n_down) (is n_down q_down has).1
 link_flow-is q_up q_down n_up n_down false space room is has = omega arith
 
--- a place can hold what its cell can
+-- a state has room for what its cell can hold
 pub held-fits : (n q : ℕ) (space : Space) (room : Option Room) → IsSpaceOf space room → HasSpace n q room → n ≤ space.storage
 held-fits n q space (Some room) is has = (is n has).0
 held-fits n q space None is has = (is n q has).0

@@ -1,4 +1,4 @@
--- A link from one cell to the next, and the flow between their places.
+-- A link from one cell to the next, and the flow between their states.
 use Rattle.std.specs.Prelude.{Bool, ◌==◌, ◌&&◌, min, nat_lt, slice_index}
 use Rattle.std.specs.List.{range_with_len}
 use Rattle.std.proofs.Common.{◌≡◌, ℕ, ◌+◌, ◌<◌, inl, inr, true, false, List, length, refl, ap, ◌∙◌, arith}
@@ -13,9 +13,9 @@ use Rattle.signal_plan.specs.Green.{green_at}
 use Rattle.signal_plan.specs.Speeds.{arriving, speed_at}
 use Rattle.flow_model.specs.Flows.{entering, flow_of, leaving}
 use Rattle.flow_model.specs.Limits.{receiving_at, room_at, sending_at}
-use Rattle.region_body.specs.Places.{carried}
+use Rattle.region_body.specs.CellStates.{carried}
 use Rattle.connector_flow.specs.Space.{HasSpace, IsSpaceOf, let_in}
-use Rattle.region_body.specs.declared.place.Place.{Place}
+use Rattle.region_body.specs.declared.cell_state.CellState.{CellState}
 use Rattle.region_body.proofs.LinkFlows.{link_flow-is}
 use Rattle.timelines.specs.Cells.{most_by}
 use Rattle.timelines.specs.Links.{most_between}
@@ -78,17 +78,17 @@ pub entering-link : (up down : ℕ) (net : Network) (t : ℕ) (n : ℕ → ℕ) 
 unfolding flow_of
 entering-link up down net t n = let own = eq-eqb down down refl in rw own (omega arith)
 
--- the same between two places, of which the first can send what limits and speed let through
-pub carried-link : (net : Network) (t up down : ℕ) (n : ℕ → ℕ) (place next : Place) →
-    min place.most place.n ≡ min (most_between net.plan up down t) (arriving (speed_at net.plan up t) (n up)) → next.n ≡ n down →
+-- the same between two states, of which the first can send what limits and speed let through
+pub carried-link : (net : Network) (t up down : ℕ) (n : ℕ → ℕ) (state next : CellState) →
+    min state.most state.n ≡ min (most_between net.plan up down t) (arriving (speed_at net.plan up t) (n up)) → next.n ≡ n down →
     IsSpaceOf next.space (room_at net.cells down) → HasSpace next.n (capacity_at net.plan down t) (room_at net.cells down) →
-    carried place next ≡ min (sending_at net t up (n up)) (receiving_at net t down (n down))
+    carried state next ≡ min (sending_at net t up (n up)) (receiving_at net t down (n down))
 unfolding most_between most_by sending_at receiving_at
-carried-link net t up down n place next sends next_held space has =
+carried-link net t up down n state next sends next_held space has =
     ap (λ sent. min sent (let_in next.space next.n)) sends
     ∙ link_flow-is (capacity_at net.plan up t) (capacity_at net.plan down t) (arriving (speed_at net.plan up t) (n up)) next.n (green_at net.plan up t) next.space
     (room_at net.cells down) space has
     ∙ ap (λ m. min (sending_at net t up (n up)) (receiving_flow m (capacity_at net.plan down t) (room_at net.cells down))) next_held
 
-pub carried-none : (place next : Place) → min place.most place.n ≡ 0 → carried place next ≡ 0
-carried-none place next none = omega arith
+pub carried-none : (state next : CellState) → min state.most state.n ≡ 0 → carried state next ≡ 0
+carried-none state next none = omega arith

@@ -13,12 +13,12 @@ use Rattle.flow_model.specs.Limits.{room_at}
 use Rattle.flow_model.specs.State.{rows_after}
 use Rattle.flow_model.specs.Rows.{empty_row, next_row}
 use Rattle.connector_flow.specs.Flows.{flow_at, no_flow}
-use Rattle.region_body.specs.Places.{carried, link_in, link_out, moved, no_place, place_at}
+use Rattle.region_body.specs.CellStates.{carried, link_in, link_out, moved, no_state, cell_state_at}
 use Rattle.connector_flow.specs.Space.{IsSpaceOf}
 use Rattle.region_body.specs.declared.cell_ref.CellRef.{CellRef}
 use Rattle.region_body.specs.declared.cell_ref.CellRef.TheVariants.{Own, Halo}
-use Rattle.region_body.specs.declared.place.Place.{Place}
-use Rattle.region_body.proofs.Neighbours.{link_in-first, link_in-more, place_at-past}
+use Rattle.region_body.specs.declared.cell_state.CellState.{CellState}
+use Rattle.region_body.proofs.Neighbours.{link_in-first, link_in-more, cell_state_at-past}
 use Rattle.timelines.specs.Cells.{CellValues}
 use Rattle.timelines.specs.Timelines.{TimelineValue, value_at}
 use Rattle.region_body.specs.FollowedLinks.{AreFollowed}
@@ -27,11 +27,11 @@ use Rattle.region_body.specs.Carrying.{three_held}
 use Rattle.region_body.specs.CellRefs.{held_in, ref_at}
 use Rattle.region_body.specs.Chains.{most_out}
 use Rattle.region_body.specs.Gates.{AreGatesKept, demand_into}
-use Rattle.region_body.specs.Moves.{ArePartsOf, IsScene, IsSeen, in_by, out_by}
+use Rattle.region_body.proofs.Moves.{ArePartsOf, IsScene, in_by, out_by}
 use Rattle.region_body.specs.Pausing.{AreIdle, IsIdleUntil}
-use Rattle.region_body.specs.Placed.{ArePlacesInBounds, ArePlaced, CanAdvance, PlacedCells, WaitThrough}
+use Rattle.region_body.specs.Placed.{ArePlaced, AreStatesInBounds, CanAdvance, IsSeen, PlacedCells, WaitThrough}
 use Rattle.region_body.specs.Rows.{IsOf, constants_at, row_of, rows_of}
-use Rattle.region_body.specs.Speeds.{at_speeds, slowed_place, ratio_at}
+use Rattle.region_body.specs.Speeds.{at_speeds, slowed_state, ratio_at}
 use Rattle.region_body.specs.Waiting.{waited}
 use Rattle.region_body.specs.declared.gate.GatePlace.{GatePlace}
 use Rattle.region_body.specs.declared.pause.Pause.{Pause}
@@ -39,7 +39,7 @@ use Rattle.region_body.specs.declared.followed_connector.FollowedConnector.{Foll
 use Rattle.region_body.proofs.Parting.{carried-is}
 use Rattle.region_body.proofs.AtSpeeds.{link_out-at_speeds}
 use Rattle.region_body.proofs.Renewed.{renewed-of, speeds-later}
-use Rattle.region_body.proofs.Stays.{length-waited, n-waited, place_at-waited, waited-same}
+use Rattle.region_body.proofs.Stays.{length-waited, n-waited, cell_state_at-waited, waited-same}
 use Rattle.region_body.proofs.Gates.{demands-kept, gates-kept}
 use Rattle.region_body.proofs.Whole.{IsMoved, held-sum, length-rows_after, length-rows_of, ready, row-after, row_at-rows_after, row_at-rows_of, steps-moved}
 
@@ -66,27 +66,27 @@ amount_beside-nothing i (a ∷ b ∷ cells) = both (i == a) (i == b) cells
 
 -- the links to neighbours
 
--- the places with what the limits let their links carry in step t
-abbrev limited : Network → (cells connectors : List ℕ) → (t : ℕ) → List Place → List Place
-limited net cells connectors t places = map (λ p. record (place_at places p) { most = most_out net cells connectors p t }) (range_with_len 0 (length places))
+-- the states with what the limits let their links carry in step t
+abbrev limited : Network → (cells connectors : List ℕ) → (t : ℕ) → List CellState → List CellState
+limited net cells connectors t states = map (λ p. record (cell_state_at states p) { most = most_out net cells connectors p t }) (range_with_len 0 (length states))
 
-length-limited : (net : Network) (cells connectors : List ℕ) (t : ℕ) (places : List Place) → length (limited net cells connectors t places) ≡ length places
-length-limited net cells connectors t places =
-    length-map-range_with_len (λ p. record (place_at places p) { most = most_out net cells connectors p t }) 0 (length places)
+length-limited : (net : Network) (cells connectors : List ℕ) (t : ℕ) (states : List CellState) → length (limited net cells connectors t states) ≡ length states
+length-limited net cells connectors t states =
+    length-map-range_with_len (λ p. record (cell_state_at states p) { most = most_out net cells connectors p t }) 0 (length states)
 
-limited-at : (net : Network) (cells connectors : List ℕ) (t : ℕ) (places : List Place) (p : ℕ) → p < length places →
-    place_at (limited net cells connectors t places) p ≡ record (place_at places p) { most = most_out net cells connectors p t }
-limited-at net cells connectors t places p within =
-    get_or-map-range_with_len (λ p. record (place_at places p) { most = most_out net cells connectors p t }) 0 (length places) p p no_place within (zero-add p)
+limited-at : (net : Network) (cells connectors : List ℕ) (t : ℕ) (states : List CellState) (p : ℕ) → p < length states →
+    cell_state_at (limited net cells connectors t states) p ≡ record (cell_state_at states p) { most = most_out net cells connectors p t }
+limited-at net cells connectors t states p within =
+    get_or-map-range_with_len (λ p. record (cell_state_at states p) { most = most_out net cells connectors p t }) 0 (length states) p p no_state within (zero-add p)
 
--- what a place holds and its space
-limited-next : (net : Network) (cells connectors : List ℕ) (t : ℕ) (places : List Place) (p : ℕ) (place : Place) →
-    carried place (place_at (limited net cells connectors t places) p) ≡ carried place (place_at places p)
-limited-next net cells connectors t places p place = elim (cases_lt p (length places)) [
-  | inl within ↦ ap (carried place) (limited-at net cells connectors t places p within)
+-- what a cell holds and its space
+limited-next : (net : Network) (cells connectors : List ℕ) (t : ℕ) (states : List CellState) (p : ℕ) (state : CellState) →
+    carried state (cell_state_at (limited net cells connectors t states) p) ≡ carried state (cell_state_at states p)
+limited-next net cells connectors t states p state = elim (cases_lt p (length states)) [
+  | inl within ↦ ap (carried state) (limited-at net cells connectors t states p within)
   | inr past ↦
-      ap (carried place) (place_at-past (limited net cells connectors t places) p (omega (arith, past, length-limited net cells connectors t places))
-      ∙ sym (place_at-past places p (omega (arith, past))))
+      ap (carried state) (cell_state_at-past (limited net cells connectors t states) p (omega (arith, past, length-limited net cells connectors t states))
+      ∙ sym (cell_state_at-past states p (omega (arith, past))))
 ]
 
 no_followed : FollowedLink
@@ -98,44 +98,44 @@ no_followed = record { place = 0; until = 0; timeline = record { up = no_cell; d
     no_cell : CellValues
     no_cell = record { capacity = no_numbers; signal = None }
 
--- the place holds nothing, or the most of its link is that of step t
-limited-most : (net : Network) (cells connectors : List ℕ) (t until speeds_until : ℕ) (places : List Place) (speeds : List (ℕ × ℕ)) (links : List FollowedLink)
-    (others : List FollowedConnector) (put : List (Option ℕ)) (p : ℕ) → AreFollowed (most_out net cells connectors) places links t →
-    AreIdle places speeds speeds_until links others put until → t < until → p < length places →
-    ((place_at places p).n ≡ 0) ⊎ ((place_at places p).most ≡ most_out net cells connectors p t)
-limited-most net cells connectors t until speeds_until places speeds links others put p followed idle before within = elim (followed.each p within) [
+-- the cell holds nothing, or the most of its link is that of step t
+limited-most : (net : Network) (cells connectors : List ℕ) (t until speeds_until : ℕ) (states : List CellState) (speeds : List (ℕ × ℕ)) (links : List FollowedLink)
+    (others : List FollowedConnector) (put : List (Option ℕ)) (p : ℕ) → AreFollowed (most_out net cells connectors) states links t →
+    AreIdle states speeds speeds_until links others put until → t < until → p < length states →
+    ((cell_state_at states p).n ≡ 0) ⊎ ((cell_state_at states p).most ≡ most_out net cells connectors p t)
+limited-most net cells connectors t until speeds_until states speeds links others put p followed idle before within = elim (followed.each p within) [
   | inl constant ↦ inr (constant t (omega arith))
   | inr (m, has) ↦ elim (idle.changes m no_followed has.there) [
-    | inl empty ↦ inl (ap (λ q. (place_at places q).n) (sym (has.its no_followed)) ∙ empty)
+    | inl empty ↦ inl (ap (λ q. (cell_state_at states q).n) (sym (has.its no_followed)) ∙ empty)
     | inr later ↦ inr (has.steady no_followed t (omega arith) (omega (arith, later, before)))
   ]
 ]
 
-limited-still : (net : Network) (cells connectors : List ℕ) (t until speeds_until : ℕ) (places : List Place) (speeds : List (ℕ × ℕ)) (links : List FollowedLink)
-    (others : List FollowedConnector) (put : List (Option ℕ)) (p : ℕ) → AreFollowed (most_out net cells connectors) places links t →
-    AreIdle places speeds speeds_until links others put until → t < until → p < length places →
-    link_out (at_speeds (limited net cells connectors t places) speeds) p ≡ 0
-limited-still net cells connectors t until speeds_until places speeds links others put p followed idle before within =
-    let place : Place = place_at places p in
-    let now = limited net cells connectors t places in
+limited-still : (net : Network) (cells connectors : List ℕ) (t until speeds_until : ℕ) (states : List CellState) (speeds : List (ℕ × ℕ)) (links : List FollowedLink)
+    (others : List FollowedConnector) (put : List (Option ℕ)) (p : ℕ) → AreFollowed (most_out net cells connectors) states links t →
+    AreIdle states speeds speeds_until links others put until → t < until → p < length states →
+    link_out (at_speeds (limited net cells connectors t states) speeds) p ≡ 0
+limited-still net cells connectors t until speeds_until states speeds links others put p followed idle before within =
+    let state : CellState = cell_state_at states p in
+    let now = limited net cells connectors t states in
     let speed : ℕ × ℕ = ratio_at speeds p in
-    let is : link_out (at_speeds now speeds) p ≡ carried (slowed_place (record place { most = most_out net cells connectors p t }) speed) (place_at places (p + 1)) =
-    link_out-at_speeds now speeds p (omega (arith, within, length-limited net cells connectors t places))
-    ∙ limited-next net cells connectors t places (p + 1) (slowed_place (place_at now p) speed)
-    ∙ ap (λ one. carried (slowed_place one speed) (place_at places (p + 1))) (limited-at net cells connectors t places p within) in
-    let still : carried (slowed_place place speed) (place_at places (p + 1)) ≡ 0 = sym (link_out-at_speeds places speeds p within) ∙ idle.still p within in
-    elim (limited-most net cells connectors t until speeds_until places speeds links others put p followed idle before within) [
+    let is : link_out (at_speeds now speeds) p ≡ carried (slowed_state (record state { most = most_out net cells connectors p t }) speed) (cell_state_at states (p + 1)) =
+    link_out-at_speeds now speeds p (omega (arith, within, length-limited net cells connectors t states))
+    ∙ limited-next net cells connectors t states (p + 1) (slowed_state (cell_state_at now p) speed)
+    ∙ ap (λ one. carried (slowed_state one speed) (cell_state_at states (p + 1))) (limited-at net cells connectors t states p within) in
+    let still : carried (slowed_state state speed) (cell_state_at states (p + 1)) ≡ 0 = sym (link_out-at_speeds states speeds p within) ∙ idle.still p within in
+    elim (limited-most net cells connectors t until speeds_until states speeds links others put p followed idle before within) [
       | inl none ↦ is ∙ omega (arith, none)
       | inr same ↦ is ∙ rw (← same) still
     ]
 
 -- the other connectors
 
-still-flow : (net : Network) (t : ℕ) (n : ℕ → ℕ) (cells halo : List ℕ) (others : List FollowedConnector) (places : List Place) (put : List (Option ℕ)) (until k : ℕ) (followed : FollowedConnector) →
-    IsScene net t cells halo others places put → IsSeen n cells halo places put → All (λ followed. followed.timeline.step ≤ t) others → All (IsIdleUntil places put until) others →
+still-flow : (net : Network) (t : ℕ) (n : ℕ → ℕ) (cells halo : List ℕ) (others : List FollowedConnector) (states : List CellState) (put : List (Option ℕ)) (until k : ℕ) (followed : FollowedConnector) →
+    IsScene net t cells halo others states put → IsSeen n cells halo states put → All (λ followed. followed.timeline.step ≤ t) others → All (IsIdleUntil states put until) others →
     t < until → k < length others → flow_of net t n (connector_at net.connectors (get_or others k followed).number) ≡ no_flow
-still-flow net t n cells halo others places put until k followed scene seen come idle before there =
-    sym (carried-is net t n cells halo others places put (get_or others k followed) scene seen (scene.connected.each k followed there))
+still-flow net t n cells halo others states put until k followed scene seen come idle before there =
+    sym (carried-is net t n cells halo others states put (get_or others k followed) scene seen (scene.connected.each k followed there))
     ∙ idle k followed there t (come k followed there) before
 
 none-out : (net : Network) (t i : ℕ) (n : ℕ → ℕ) (k : ℕ) → flow_of net t n (connector_at net.connectors k) ≡ no_flow → out_by net t n i k ≤ 0
@@ -159,135 +159,135 @@ none-demanded t p gates none = sum_by-zero (demand_into t p) gates (λ k d withi
 -- nothing leaves a cell that waits through step t, and nothing enters it
 
 pub still : (net : Network) (t : ℕ) (n : ℕ → ℕ) (cells halo connectors : List ℕ) (placed : PlacedCells) (put : List (Option ℕ)) → IsNetwork net → t < net.steps →
-    ArePlaced net cells halo connectors t placed → ArePlacesInBounds net cells halo t placed put → IsSeen n cells halo placed.places put → WaitThrough t placed put →
+    ArePlaced net cells halo connectors t placed → AreStatesInBounds net cells halo t placed put → IsSeen n cells halo placed.states put → WaitThrough t placed put →
     (p : ℕ) → p < length cells → (outflow net t n (slice_index cells p) ≡ 0) × (inflow net t n (slice_index cells p) ≡ 0)
 still net t n cells halo connectors placed put sound before has bounds seen wait =
-    let idle : AreIdle placed.places placed.speeds placed.speeds_until placed.links placed.connectors put placed.pause.until =
-    subst (λ put. AreIdle placed.places placed.speeds placed.speeds_until placed.links placed.connectors put placed.pause.until) wait.same (has.pause.idle t wait.paused) in
-    let scene : IsScene net t cells halo placed.connectors placed.places put = record {
+    let idle : AreIdle placed.states placed.speeds placed.speeds_until placed.links placed.connectors put placed.pause.until =
+    subst (λ put. AreIdle placed.states placed.speeds placed.speeds_until placed.links placed.connectors put placed.pause.until) wait.same (has.pause.idle t wait.paused) in
+    let scene : IsScene net t cells halo placed.connectors placed.states put = record {
       sound = sound;
       before = before;
       connected = has.connected;
-      place_each = has.one_each;
+      state_each = has.one_each;
       put_each = bounds.put_each;
       own = λ p within. (ready net t n cells halo connectors placed put p sound before has bounds seen within).row.held;
       around = bounds.around;
     } in
     let flow = λ (k : ℕ) (d : FollowedConnector) (there : k < length placed.connectors).
-    still-flow net t n cells halo placed.connectors placed.places put placed.pause.until k d scene seen has.come idle.carry_nothing wait.paused there in
+    still-flow net t n cells halo placed.connectors placed.states put placed.pause.until k d scene seen has.come idle.carry_nothing wait.paused there in
     let parts : ArePartsOf net t n cells placed.connectors (λ p. 0) (λ p. 0) = record {
       taken = λ p within. sym (sum_by-zero (λ followed. out_by net t n (slice_index cells p) followed.number) placed.connectors
           (λ k d there. none-out net t (slice_index cells p) n (get_or placed.connectors k d).number (flow k d there)));
       brought = λ p within. sym (sum_by-zero (λ followed. in_by net t n (slice_index cells p) followed.number) placed.connectors
           (λ k d there. none-in net t (slice_index cells p) n (get_or placed.connectors k d).number (flow k d there)));
     } in
-    let now : List Place = limited net cells connectors t placed.places in
-    let places : List Place = at_speeds now placed.speeds in
-    let none : (p : ℕ) → p < length cells → link_out places p ≡ 0 =
-    λ p within. limited-still net cells connectors t placed.pause.until placed.speeds_until placed.places placed.speeds placed.links placed.connectors put p has.followed idle
+    let now : List CellState = limited net cells connectors t placed.states in
+    let states : List CellState = at_speeds now placed.speeds in
+    let none : (p : ℕ) → p < length cells → link_out states p ≡ 0 =
+    λ p within. limited-still net cells connectors t placed.pause.until placed.speeds_until placed.states placed.speeds placed.links placed.connectors put p has.followed idle
     wait.paused (omega (arith, has.one_each)) in
-    let moves : IsMoved net t n cells places (λ p. 0) (λ p. 0) =
-    steps-moved net cells halo connectors t n placed places (λ p. 0) (λ p. 0) (λ p. 0) put sound before has bounds seen
+    let moves : IsMoved net t n cells states (λ p. 0) (λ p. 0) =
+    steps-moved net cells halo connectors t n placed states (λ p. 0) (λ p. 0) (λ p. 0) put sound before has bounds seen
     (renewed-of net cells connectors t placed.speeds_until placed now placed.speed_timelines placed.speeds sound has.around has.one_each
-    (length-limited net cells connectors t placed.places) (limited-at net cells connectors t placed.places) has.speeds (omega (arith, wait.paused, idle.stays))) parts
+    (length-limited net cells connectors t placed.states) (limited-at net cells connectors t placed.states) has.speeds (omega (arith, wait.paused, idle.stays))) parts
     (λ p. omega (arith, none-demanded t p placed.gates wait.demand_nothing)) in
     λ p within. (
       omega (arith, moves.leaves p within, none p within),
-      omega (arith, moves.enters p within, none-before places p within none),
+      omega (arith, moves.enters p within, none-before states p within none),
     )
   where
-    none-before : (places : List Place) (p : ℕ) → p < length cells → ((p : ℕ) → p < length cells → link_out places p ≡ 0) → link_in places p ≡ 0
-    none-before places zero within none = link_in-first places
-    none-before places (suc p) within none = ap (link_in places) (sym (add-one p)) ∙ link_in-more places p ∙ none p (omega arith)
+    none-before : (states : List CellState) (p : ℕ) → p < length cells → ((p : ℕ) → p < length cells → link_out states p ≡ 0) → link_in states p ≡ 0
+    none-before states zero within none = link_in-first states
+    none-before states (suc p) within none = ap (link_in states) (sym (add-one p)) ∙ link_in-more states p ∙ none p (omega arith)
 
--- what a place held once more is its step in which nothing moved
-waits-step : (place : Place) (enters leaves : ℕ) → enters ≡ 0 → leaves ≡ 0 → waited 1 place ≡ moved place enters leaves
+-- what a cell held once more is its step in which nothing moved
+waits-step : (state : CellState) (enters leaves : ℕ) → enters ≡ 0 → leaves ≡ 0 → waited 1 state ≡ moved state enters leaves
 unfolding waited
-waits-step place enters leaves none none_out =
-    let n : place.n + enters - leaves ≡ place.n = omega arith in
-    let gone : place.gone + leaves ≡ place.gone = omega arith in
+waits-step state enters leaves none none_out =
+    let n : state.n + enters - leaves ≡ state.n = omega arith in
+    let gone : state.gone + leaves ≡ state.gone = omega arith in
     rw (n, gone) refl
 
 cell-waits : (net : Network) (t : ℕ) (n : ℕ → ℕ) (cells halo connectors : List ℕ) (placed : PlacedCells) (put : List (Option ℕ)) → IsNetwork net → t < net.steps →
-    ArePlaced net cells halo connectors t placed → ArePlacesInBounds net cells halo t placed put → IsSeen n cells halo placed.places put → WaitThrough t placed put →
+    ArePlaced net cells halo connectors t placed → AreStatesInBounds net cells halo t placed put → IsSeen n cells halo placed.states put → WaitThrough t placed put →
     (p : ℕ) → p < length cells →
-    (row_of (constants_at placed.constants p) (waited 1 (place_at placed.places p)) ≡ next_row net t n (slice_index cells p) (row_of (constants_at placed.constants p) (place_at placed.places p))) ×
-    IsOf net (slice_index cells p) (constants_at placed.constants p) (waited 1 (place_at placed.places p))
+    (row_of (constants_at placed.constants p) (waited 1 (cell_state_at placed.states p)) ≡ next_row net t n (slice_index cells p) (row_of (constants_at placed.constants p) (cell_state_at placed.states p))) ×
+    IsOf net (slice_index cells p) (constants_at placed.constants p) (waited 1 (cell_state_at placed.states p))
 cell-waits net t n cells halo connectors placed put sound before has bounds seen wait p within =
-    let place : Place = place_at placed.places p in
+    let state : CellState = cell_state_at placed.states p in
     let none = still net t n cells halo connectors placed put sound before has bounds seen wait p within in
-    row-after net t n (slice_index cells p) (constants_at placed.constants p) place place (waited 1 place) place.most 0 0
-    (ready net t n cells halo connectors placed put p sound before has bounds seen within) refl (waits-step place 0 0 refl refl) (sym none.1) (sym none.0)
+    row-after net t n (slice_index cells p) (constants_at placed.constants p) state state (waited 1 state) state.most 0 0
+    (ready net t n cells halo connectors placed put p sound before has bounds seen within) refl (waits-step state 0 0 refl refl) (sym none.1) (sym none.0)
 
 -- the cells as they are after a step of waiting
 abbrev pub waiting : PlacedCells → (gates : List GatePlace) → (before : List ℕ) → PlacedCells
 waiting placed gates before = record placed {
-  places = map (waited 1) placed.places;
+  states = map (waited 1) placed.states;
   before = before;
   gates = gates;
   pause = record placed.pause { owed = placed.pause.owed + 1 };
 }
 
 pub rows-waited : (net : Network) (cells : List ℕ) (t : ℕ) (placed : PlacedCells) (put : List (Option ℕ)) → IsNetwork net → t < net.steps → WaitThrough t placed put →
-    (can : CanAdvance net cells t placed put) → rows_of placed.constants (map (waited 1) placed.places) ≡ rows_after net t can.n cells (rows_of placed.constants placed.places)
+    (can : CanAdvance net cells t placed put) → rows_of placed.constants (map (waited 1) placed.states) ≡ rows_after net t can.n cells (rows_of placed.constants placed.states)
 rows-waited net cells t placed put sound before wait can =
-    let rows = rows_after net t can.n cells (rows_of placed.constants placed.places) in
-    ext_get_or empty_row (rows_of placed.constants (map (waited 1) placed.places)) rows
-    (length-rows_of placed.constants (map (waited 1) placed.places) ∙ can.laid.constants_each ∙ sym (length-rows_after net t can.n cells (rows_of placed.constants placed.places)))
+    let rows = rows_after net t can.n cells (rows_of placed.constants placed.states) in
+    ext_get_or empty_row (rows_of placed.constants (map (waited 1) placed.states)) rows
+    (length-rows_of placed.constants (map (waited 1) placed.states) ∙ can.laid.constants_each ∙ sym (length-rows_after net t can.n cells (rows_of placed.constants placed.states)))
     (λ p lt.
-    let inside : p < length placed.constants = omega (arith, length-rows_of placed.constants (map (waited 1) placed.places)) in
+    let inside : p < length placed.constants = omega (arith, length-rows_of placed.constants (map (waited 1) placed.states)) in
     let within : p < length cells = omega (arith, can.laid.constants_each) in
-    row_at-rows_of placed.constants (map (waited 1) placed.places) p inside
-    ∙ ap (row_of (constants_at placed.constants p)) (place_at-waited 1 placed.places p (omega (arith, within, can.laid.one_each)))
+    row_at-rows_of placed.constants (map (waited 1) placed.states) p inside
+    ∙ ap (row_of (constants_at placed.constants p)) (cell_state_at-waited 1 placed.states p (omega (arith, within, can.laid.one_each)))
     ∙ (cell-waits net t can.n cells can.halo can.connectors placed put sound before can.laid can.bounds can.seen wait p within).0
-    ∙ sym (row_at-rows_after net t can.n cells (rows_of placed.constants placed.places) p within
-    ∙ ap (next_row net t can.n (slice_index cells p)) (row_at-rows_of placed.constants placed.places p inside)))
+    ∙ sym (row_at-rows_after net t can.n cells (rows_of placed.constants placed.states) p within
+    ∙ ap (next_row net t can.n (slice_index cells p)) (row_at-rows_of placed.constants placed.states p inside)))
 
 -- what moves by their connectors is as before
 
-held-waited : (places : List Place) (put : List (Option ℕ)) (cell : CellRef) → held_in (map (waited 1) places) put cell ≡ held_in places put cell
-held-waited places put (Own p) = n-waited 1 places p
-held-waited places put (Halo j) = refl
+held-waited : (states : List CellState) (put : List (Option ℕ)) (cell : CellRef) → held_in (map (waited 1) states) put cell ≡ held_in states put cell
+held-waited states put (Own p) = n-waited 1 states p
+held-waited states put (Halo j) = refl
 
-three-waited : (followed : FollowedConnector) (places : List Place) (put : List (Option ℕ)) → three_held followed (held_in (map (waited 1) places) put) ≡ three_held followed (held_in places put)
-three-waited followed places put =
-    rw (held-waited places put (ref_at followed.cells 0), held-waited places put (ref_at followed.cells 1), held-waited places put (ref_at followed.cells 2)) refl
+three-waited : (followed : FollowedConnector) (states : List CellState) (put : List (Option ℕ)) → three_held followed (held_in (map (waited 1) states) put) ≡ three_held followed (held_in states put)
+three-waited followed states put =
+    rw (held-waited states put (ref_at followed.cells 0), held-waited states put (ref_at followed.cells 1), held-waited states put (ref_at followed.cells 2)) refl
 
-next-waited : (places : List Place) (p : ℕ) (place : Place) → carried place (place_at (map (waited 1) places) p) ≡ carried place (place_at places p)
-next-waited places p place = elim (cases_lt p (length places)) [
-  | inl within ↦ ap (carried place) (place_at-waited 1 places p within ∙ waited-same 1 (place_at places p))
+next-waited : (states : List CellState) (p : ℕ) (state : CellState) → carried state (cell_state_at (map (waited 1) states) p) ≡ carried state (cell_state_at states p)
+next-waited states p state = elim (cases_lt p (length states)) [
+  | inl within ↦ ap (carried state) (cell_state_at-waited 1 states p within ∙ waited-same 1 (cell_state_at states p))
   | inr past ↦
-      ap (carried place) (place_at-past (map (waited 1) places) p (omega (arith, past, length-waited 1 places))
-      ∙ sym (place_at-past places p (omega (arith, past))))
+      ap (carried state) (cell_state_at-past (map (waited 1) states) p (omega (arith, past, length-waited 1 states))
+      ∙ sym (cell_state_at-past states p (omega (arith, past))))
 ]
 
-out-waited : (places : List Place) (speeds : List (ℕ × ℕ)) (p : ℕ) → p < length places → link_out (at_speeds (map (waited 1) places) speeds) p ≡ link_out (at_speeds places speeds) p
-out-waited places speeds p within =
-    link_out-at_speeds (map (waited 1) places) speeds p (omega (arith, within, length-waited 1 places))
-    ∙ next-waited places (p + 1) (slowed_place (place_at (map (waited 1) places) p) (ratio_at speeds p))
-    ∙ ap (λ one. carried (slowed_place one (ratio_at speeds p)) (place_at places (p + 1))) (place_at-waited 1 places p within ∙ waited-same 1 (place_at places p))
-    ∙ sym (link_out-at_speeds places speeds p within)
+out-waited : (states : List CellState) (speeds : List (ℕ × ℕ)) (p : ℕ) → p < length states → link_out (at_speeds (map (waited 1) states) speeds) p ≡ link_out (at_speeds states speeds) p
+out-waited states speeds p within =
+    link_out-at_speeds (map (waited 1) states) speeds p (omega (arith, within, length-waited 1 states))
+    ∙ next-waited states (p + 1) (slowed_state (cell_state_at (map (waited 1) states) p) (ratio_at speeds p))
+    ∙ ap (λ one. carried (slowed_state one (ratio_at speeds p)) (cell_state_at states (p + 1))) (cell_state_at-waited 1 states p within ∙ waited-same 1 (cell_state_at states p))
+    ∙ sym (link_out-at_speeds states speeds p within)
 
-idle-waited : (places : List Place) (speeds : List (ℕ × ℕ)) (speeds_until : ℕ) (links : List FollowedLink) (others : List FollowedConnector) (put : List (Option ℕ)) (until : ℕ) →
-    AreIdle places speeds speeds_until links others put until → AreIdle (map (waited 1) places) speeds speeds_until links others put until
-idle-waited places speeds speeds_until links others put until idle = record {
-  still = λ p within. let here : p < length places = omega (arith, within, length-waited 1 places) in out-waited places speeds p here ∙ idle.still p here;
+idle-waited : (states : List CellState) (speeds : List (ℕ × ℕ)) (speeds_until : ℕ) (links : List FollowedLink) (others : List FollowedConnector) (put : List (Option ℕ)) (until : ℕ) →
+    AreIdle states speeds speeds_until links others put until → AreIdle (map (waited 1) states) speeds speeds_until links others put until
+idle-waited states speeds speeds_until links others put until idle = record {
+  still = λ p within. let here : p < length states = omega (arith, within, length-waited 1 states) in out-waited states speeds p here ∙ idle.still p here;
   stays = idle.stays;
   changes = λ k d within. elim (idle.changes k d within) [
-    | inl empty ↦ inl (n-waited 1 places (get_or links k d).place ∙ empty)
+    | inl empty ↦ inl (n-waited 1 states (get_or links k d).place ∙ empty)
     | inr later ↦ inr later
   ];
   carry_nothing = λ k d within s from before.
-      ap (flow_at (get_or others k d).timeline s) (three-waited (get_or others k d) places put) ∙ idle.carry_nothing k d within s from before;
+      ap (flow_at (get_or others k d).timeline s) (three-waited (get_or others k d) states put) ∙ idle.carry_nothing k d within s from before;
 }
 
-followed-waited : (most : ℕ → ℕ → ℕ) (places : List Place) (links : List FollowedLink) (t : ℕ) → AreFollowed most places links t →
-    AreFollowed most (map (waited 1) places) links (t + 1)
-followed-waited most places links t has = record {
+followed-waited : (most : ℕ → ℕ → ℕ) (states : List CellState) (links : List FollowedLink) (t : ℕ) → AreFollowed most states links t →
+    AreFollowed most (map (waited 1) states) links (t + 1)
+followed-waited most states links t has = record {
   timelines = has.timelines;
   each = λ p within.
-      let here : p < length places = omega (arith, within, length-waited 1 places) in
-      let is = ap (λ place. place.most) (place_at-waited 1 places p here ∙ waited-same 1 (place_at places p)) in
+      let here : p < length states = omega (arith, within, length-waited 1 states) in
+      let is = ap (λ state. state.most) (cell_state_at-waited 1 states p here ∙ waited-same 1 (cell_state_at states p)) in
       elim (has.each p here) [
         | inl stays ↦ inl (λ s from. is ∙ stays s (omega (arith, from)))
         | inr (m, by) ↦ inr (m, record { there = by.there; its = by.its; steady = λ d s from before. is ∙ by.steady d s (omega (arith, from)) before })
@@ -296,22 +296,22 @@ followed-waited most places links t has = record {
 
 pub placed-waited : (net : Network) (cells : List ℕ) (t : ℕ) (placed : PlacedCells) (put : List (Option ℕ)) (gates : List GatePlace) (before : List ℕ) → IsNetwork net →
     t < net.steps → WaitThrough t placed put → AreGatesKept t placed.gates gates → length before ≡ length placed.before →
-    ((p : ℕ) → p < length placed.places → slice_index before p ≡ (place_at placed.places p).n) →
+    ((p : ℕ) → p < length placed.states → slice_index before p ≡ (cell_state_at placed.states p).n) →
     (can : CanAdvance net cells t placed put) → ArePlaced net cells can.halo can.connectors (t + 1) (waiting placed gates before)
 placed-waited net cells t placed put gates before sound in_time wait kept long noted can =
     let has = can.laid in
     let space_is = λ (p : ℕ) (within : p < length cells).
-    ap (λ place. place.space) (place_at-waited 1 placed.places p (omega (arith, within, has.one_each)) ∙ waited-same 1 (place_at placed.places p)) in
+    ap (λ state. state.space) (cell_state_at-waited 1 placed.states p (omega (arith, within, has.one_each)) ∙ waited-same 1 (cell_state_at placed.states p)) in
     record {
       around = has.around;
       known = has.known;
       connected = has.connected;
       numbers = has.numbers;
-      one_each = length-waited 1 placed.places ∙ has.one_each;
+      one_each = length-waited 1 placed.states ∙ has.one_each;
       constants_each = has.constants_each;
       before_each = long ∙ has.before_each;
       own = λ p within.
-          subst (IsOf net (slice_index cells p) (constants_at placed.constants p)) (sym (place_at-waited 1 placed.places p (omega (arith, within, has.one_each))))
+          subst (IsOf net (slice_index cells p) (constants_at placed.constants p)) (sym (cell_state_at-waited 1 placed.states p (omega (arith, within, has.one_each))))
           (cell-waits net t can.n cells can.halo can.connectors placed put sound in_time has can.bounds can.seen wait p within).1;
       space = λ p within. subst (λ space. IsSpaceOf space (room_at net.cells (slice_index cells p))) (sym (space_is p within)) (has.space p within);
       come = λ k d within. omega (arith, has.come k d within);
@@ -322,27 +322,27 @@ placed-waited net cells t placed put gates before sound in_time wait kept long n
           record { demand = is.demand; step = omega (arith, is.step) };
       links = λ k d within.
           let there = has.links k d within in
-          record { place = omega (arith, there.place, length-waited 1 placed.places); step = omega (arith, there.step) };
+          record { place = omega (arith, there.place, length-waited 1 placed.states); step = omega (arith, there.step) };
       speeds = speeds-later net cells placed.speed_timelines placed.speeds t placed.speeds_until has.speeds;
       zones = has.zones;
-      followed = followed-waited (most_out net cells can.connectors) placed.places placed.links t has.followed;
+      followed = followed-waited (most_out net cells can.connectors) placed.states placed.links t has.followed;
       pause = record {
-        idle = λ s within. idle-waited placed.places placed.speeds placed.speeds_until placed.links placed.connectors placed.seen placed.pause.until (has.pause.idle s within);
+        idle = λ s within. idle-waited placed.states placed.speeds placed.speeds_until placed.links placed.connectors placed.seen placed.pause.until (has.pause.idle s within);
         owed = omega (arith, has.pause.owed);
         kept = λ some p within.
-            let here : p < length placed.places = omega (arith, within, length-waited 1 placed.places) in
-            noted p here ∙ sym (n-waited 1 placed.places p);
+            let here : p < length placed.states = omega (arith, within, length-waited 1 placed.states) in
+            noted p here ∙ sym (n-waited 1 placed.states p);
       };
       seen_each = has.seen_each;
     }
 
--- no sum of a place runs too large as it waits
+-- no sum of a state runs too large as it waits
 pub sums-fit : (net : Network) (cells : List ℕ) (t : ℕ) (placed : PlacedCells) (put : List (Option ℕ)) → IsNetwork net → t < net.steps →
     CanAdvance net cells t placed put → (p : ℕ) → p < length placed.constants → (constants_at placed.constants p).is_exit ≡ false →
-    (place_at placed.places p).held + (place_at placed.places p).n < 2 ^ 64
+    (cell_state_at placed.states p).held + (cell_state_at placed.states p).n < 2 ^ 64
 sums-fit net cells t placed put sound before can p inside other =
     let within : p < length cells = omega (arith, can.laid.constants_each) in
-    held-sum net t can.n (slice_index cells p) (constants_at placed.constants p) (place_at placed.places p)
+    held-sum net t can.n (slice_index cells p) (constants_at placed.constants p) (cell_state_at placed.states p)
     (ready net t can.n cells can.halo can.connectors placed put p sound before can.laid can.bounds can.seen within) other
 
 -- cells that wake, with gates that were asked
@@ -387,23 +387,23 @@ advance-awake net cells t placed gates put kept can = record {
 
 -- what a step says of them it says of the cells as they were
 pub rows-awake : (net : Network) (cells : List ℕ) (t : ℕ) (old mid new : PlacedCells) (gates : List GatePlace) (put : List (Option ℕ)) → mid ≡ awake old gates →
-    AreGatesKept t old.gates gates → ((can : CanAdvance net cells t mid put) → rows_of new.constants new.places ≡ rows_after net t can.n cells (rows_of mid.constants mid.places)) →
-    (can : CanAdvance net cells t old put) → rows_of new.constants new.places ≡ rows_after net t can.n cells (rows_of old.constants old.places)
+    AreGatesKept t old.gates gates → ((can : CanAdvance net cells t mid put) → rows_of new.constants new.states ≡ rows_after net t can.n cells (rows_of mid.constants mid.states)) →
+    (can : CanAdvance net cells t old put) → rows_of new.constants new.states ≡ rows_after net t can.n cells (rows_of old.constants old.states)
 unfolding advance-awake
 rows-awake net cells t old mid new gates put is kept =
     rw is (λ rows can. rows (advance-awake net cells t old gates put kept can))
 
-pub places-awake : (net : Network) (cells : List ℕ) (t : ℕ) (old mid new : PlacedCells) (gates : List GatePlace) (put : List (Option ℕ)) → mid ≡ awake old gates →
+pub states-awake : (net : Network) (cells : List ℕ) (t : ℕ) (old mid new : PlacedCells) (gates : List GatePlace) (put : List (Option ℕ)) → mid ≡ awake old gates →
     AreGatesKept t old.gates gates → ((can : CanAdvance net cells t mid put) → ArePlaced net cells can.halo can.connectors (t + 1) new) →
     (can : CanAdvance net cells t old put) → ArePlaced net cells can.halo can.connectors (t + 1) new
 unfolding advance-awake
-places-awake net cells t old mid new gates put is kept =
+states-awake net cells t old mid new gates put is kept =
     rw is (λ placed can. placed (advance-awake net cells t old gates put kept can))
 
 -- with another pause the cells are placed as before
 pub placed-paused : (net : Network) (cells halo connectors : List ℕ) (t : ℕ) (placed : PlacedCells) (pause : Pause) (seen : List (Option ℕ)) →
     ArePlaced net cells halo connectors t placed → pause.owed ≡ 0 → length seen ≡ length halo →
-    ((s : ℕ) → s < pause.until → AreIdle placed.places placed.speeds placed.speeds_until placed.links placed.connectors seen pause.until) →
+    ((s : ℕ) → s < pause.until → AreIdle placed.states placed.speeds placed.speeds_until placed.links placed.connectors seen pause.until) →
     ArePlaced net cells halo connectors t (record placed { pause = pause; seen = seen })
 placed-paused net cells halo connectors t placed pause seen has none seen_each idle = record {
   around = has.around;

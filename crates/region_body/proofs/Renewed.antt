@@ -1,4 +1,4 @@
--- Places, links and speeds as they are renewed for a step.
+-- States, links and speeds as they are renewed for a step.
 use Rattle.std.specs.Prelude.{All, Bool, min, not, ◌&&◌, slice_index}
 use Rattle.std.proofs.Common.{◌≡◌, ℕ, ◌+◌, ◌<◌, true, false, inl, inr, List, length, refl, sym, ap, ◌∙◌, arith}
 use Rattle.std.proofs.lemmas.Bool.{cases_Bool}
@@ -8,13 +8,13 @@ use Rattle.network_file.specs.Cells.{is_exit_at}
 use Rattle.network_file.specs.Network.{IsNetwork, Network}
 use Rattle.flow_model.proofs.CellLimits.{speed_at-sound}
 use Rattle.timelines.specs.Timelines.{value_at}
-use Rattle.region_body.specs.Places.{AreSound, place_at}
-use Rattle.region_body.specs.declared.place.Place.{Place}
+use Rattle.region_body.specs.CellStates.{AreSound, cell_state_at}
+use Rattle.region_body.specs.declared.cell_state.CellState.{CellState}
 use Rattle.region_body.specs.Chains.{AreAround, is_joined, most_out}
 use Rattle.region_body.specs.FollowedLinks.{AreFollowed, IsLinkThere}
 use Rattle.region_body.specs.declared.followed_link.FollowedLink.{FollowedLink}
 use Rattle.region_body.specs.Placed.{ArePlaced, PlacedCells}
-use Rattle.region_body.specs.Speeds.{AreSpeedsInForce, AreSpeedsAsBefore, AreSpeedsOf, IsSpeedThere, at_speeds, cell_speed, is_listed, is_slow, slowed_place, ratio_at}
+use Rattle.region_body.specs.Speeds.{AreSpeedsInForce, AreSpeedsAsBefore, AreSpeedsOf, IsSpeedThere, at_speeds, cell_speed, is_listed, is_slow, slowed_state, ratio_at}
 use Rattle.region_body.specs.declared.followed_speed.FollowedSpeed.{FollowedSpeed}
 use Rattle.region_body.proofs.AtSpeeds.{at_speeds-at, length-at_speeds}
 use Rattle.region_body.proofs.Extending.{most-by}
@@ -71,36 +71,36 @@ sends-now net cells connectors timelines speeds t until p n sound around are bef
       omega (arith, none)
 ]
 
--- places that send in step t what limits and speeds let through
-pub record AreRenewed (net : Network) (cells connectors : List ℕ) (t : ℕ) (placed : PlacedCells) (places : List Place) : Type 0 where
-  pub long : length places ≡ length placed.places
-  pub only_most : (p : ℕ) → p < length placed.places → place_at places p ≡ record (place_at placed.places p) { most = (place_at places p).most }
-  pub sends : (p : ℕ) → p < length placed.places → min (place_at places p).most (place_at placed.places p).n ≡ sent_now net cells connectors t p (place_at placed.places p).n
+-- states that send in step t what limits and speeds let through
+pub record AreRenewed (net : Network) (cells connectors : List ℕ) (t : ℕ) (placed : PlacedCells) (states : List CellState) : Type 0 where
+  pub long : length states ≡ length placed.states
+  pub only_most : (p : ℕ) → p < length placed.states → cell_state_at states p ≡ record (cell_state_at placed.states p) { most = (cell_state_at states p).most }
+  pub sends : (p : ℕ) → p < length placed.states → min (cell_state_at states p).most (cell_state_at placed.states p).n ≡ sent_now net cells connectors t p (cell_state_at placed.states p).n
 
--- places of which only the most may be another
-pub record AreKept (placed : PlacedCells) (places : List Place) : Type 0 where
-  pub long : length places ≡ length placed.places
-  pub only_most : (p : ℕ) → p < length placed.places → place_at places p ≡ record (place_at placed.places p) { most = (place_at places p).most }
+-- states of which only the most may be another
+pub record AreKept (placed : PlacedCells) (states : List CellState) : Type 0 where
+  pub long : length states ≡ length placed.states
+  pub only_most : (p : ℕ) → p < length placed.states → cell_state_at states p ≡ record (cell_state_at placed.states p) { most = (cell_state_at states p).most }
 
 -- what is renewed
 pub record Renewal : Type 0 where
-  pub places : List Place
+  pub states : List CellState
   pub links : List FollowedLink
   pub timelines : List FollowedSpeed
   pub speeds : List (ℕ × ℕ)
   pub until : ℕ
 
--- the places as they send
-abbrev pub sending : Renewal → List Place
-sending new = at_speeds new.places new.speeds
+-- the states as they send
+abbrev pub sending : Renewal → List CellState
+sending new = at_speeds new.states new.speeds
 
 -- what is told of it
 pub record IsRenewal (t : ℕ) (placed : PlacedCells) (new : Renewal) : Type 0 where
-  pub long : length new.places ≡ length placed.places
-  pub there : All (IsLinkThere (length placed.places) t) new.links
-  pub most : (most : ℕ → ℕ → ℕ) → AreFollowed most placed.places placed.links t → (p : ℕ) → p < length placed.places →
-      place_at new.places p ≡ record (place_at placed.places p) { most = most p t }
-  pub followed : (most : ℕ → ℕ → ℕ) → AreFollowed most placed.places placed.links t → AreFollowed most new.places new.links t
+  pub long : length new.states ≡ length placed.states
+  pub there : All (IsLinkThere (length placed.states) t) new.links
+  pub most : (most : ℕ → ℕ → ℕ) → AreFollowed most placed.states placed.links t → (p : ℕ) → p < length placed.states →
+      cell_state_at new.states p ≡ record (cell_state_at placed.states p) { most = most p t }
+  pub followed : (most : ℕ → ℕ → ℕ) → AreFollowed most placed.states placed.links t → AreFollowed most new.states new.links t
   pub speeds_long : length new.speeds ≡ length placed.speeds
   pub speeds_there : All (IsSpeedThere (length placed.speeds) t) new.timelines
   pub as_before : AreSpeedsAsBefore placed.speed_timelines new.timelines
@@ -109,12 +109,12 @@ pub record IsRenewal (t : ℕ) (placed : PlacedCells) (new : Renewal) : Type 0 w
       AreSpeedsInForce speed placed.speed_timelines placed.speeds t placed.speeds_until → AreSpeedsInForce speed placed.speed_timelines new.speeds t new.until
   pub others : (p : ℕ) → is_listed placed.speed_timelines p ≡ false → ratio_at new.speeds p ≡ ratio_at placed.speeds p
 
--- places, links and speeds in step t
+-- states, links and speeds in step t
 pub record IsFresh (net : Network) (cells connectors : List ℕ) (t : ℕ) (placed : PlacedCells) (new : Renewal) : Type 0 where
   pub renewed : AreRenewed net cells connectors t placed (sending new)
-  pub kept : AreKept placed new.places
-  pub links_there : All (IsLinkThere (length new.places) t) new.links
-  pub followed : AreFollowed (most_out net cells connectors) new.places new.links t
+  pub kept : AreKept placed new.states
+  pub links_there : All (IsLinkThere (length new.states) t) new.links
+  pub followed : AreFollowed (most_out net cells connectors) new.states new.links t
   pub speeds : AreSpeedsOf net cells new.timelines new.speeds t new.until
   pub later : t < new.until
 
@@ -124,7 +124,7 @@ speeds-renewed net cells t placed new has is =
     let same = λ (p : ℕ). listed-same placed.speed_timelines new.timelines p is.as_before in
     record {
       there = rw is.speeds_long is.speeds_there;
-      known = λ p within. rw is.speeds_long (has.known p (rw is.speeds_long at within));
+      known = λ some. rw is.speeds_long (has.known (rw is.speeds_long at some));
       values = λ k d within s.
           let inside : k < length placed.speed_timelines = omega (arith, within, is.as_before.long) in
           let one = is.as_before.each k d inside in
@@ -137,21 +137,21 @@ speeds-renewed net cells t placed new has is =
       others = λ p other. is.others p (sym (same p) ∙ other) ∙ has.others p (sym (same p) ∙ other);
     }
 
-pub renewed-of : (net : Network) (cells connectors : List ℕ) (t until : ℕ) (placed : PlacedCells) (places : List Place) (timelines : List FollowedSpeed) (speeds : List (ℕ × ℕ)) →
-    IsNetwork net → AreAround net cells connectors → length placed.places ≡ length cells → length places ≡ length placed.places →
-    ((p : ℕ) → p < length placed.places → place_at places p ≡ record (place_at placed.places p) { most = most_out net cells connectors p t }) →
-    AreSpeedsOf net cells timelines speeds t until → t < until → AreRenewed net cells connectors t placed (at_speeds places speeds)
-renewed-of net cells connectors t until placed places timelines speeds sound around one_each long most are before =
-    let at = λ (p : ℕ) (within : p < length placed.places). at_speeds-at places speeds p (omega (arith, within, long)) in
+pub renewed-of : (net : Network) (cells connectors : List ℕ) (t until : ℕ) (placed : PlacedCells) (states : List CellState) (timelines : List FollowedSpeed) (speeds : List (ℕ × ℕ)) →
+    IsNetwork net → AreAround net cells connectors → length placed.states ≡ length cells → length states ≡ length placed.states →
+    ((p : ℕ) → p < length placed.states → cell_state_at states p ≡ record (cell_state_at placed.states p) { most = most_out net cells connectors p t }) →
+    AreSpeedsOf net cells timelines speeds t until → t < until → AreRenewed net cells connectors t placed (at_speeds states speeds)
+renewed-of net cells connectors t until placed states timelines speeds sound around one_each long most are before =
+    let at = λ (p : ℕ) (within : p < length placed.states). at_speeds-at states speeds p (omega (arith, within, long)) in
     record {
-      long = length-at_speeds places speeds ∙ long;
+      long = length-at_speeds states speeds ∙ long;
       only_most = λ p within.
-          let slowed : Place = slowed_place (place_at places p) (ratio_at speeds p) in
-          at p within ∙ ap {B = Place} (λ (place : Place). record place { most = slowed.most }) (most p within)
-          ∙ ap {B = Place} (λ m. record (place_at placed.places p) { most = m }) (sym (ap (λ place. place.most) (at p within)));
+          let slowed : CellState = slowed_state (cell_state_at states p) (ratio_at speeds p) in
+          at p within ∙ ap {B = CellState} (λ (state : CellState). record state { most = slowed.most }) (most p within)
+          ∙ ap {B = CellState} (λ m. record (cell_state_at placed.states p) { most = m }) (sym (ap (λ state. state.most) (at p within)));
       sends = λ p within.
-          let n : ℕ = (place_at placed.places p).n in
-          ap (λ place. min place.most n) (at p within) ∙ ap (λ place. min (slowed_place place (ratio_at speeds p)).most n) (most p within)
+          let n : ℕ = (cell_state_at placed.states p).n in
+          ap (λ state. min state.most n) (at p within) ∙ ap (λ state. min (slowed_state state (ratio_at speeds p)).most n) (most p within)
           ∙ sends-now net cells connectors timelines speeds t until p n sound around are before (omega (arith, within, one_each));
     }
 
@@ -161,10 +161,10 @@ fresh-of net cells halo connectors t placed new sound has is =
     let most = is.most (most_out net cells connectors) has.followed in
     let speeds = speeds-renewed net cells t placed new has.speeds is in
     record {
-      renewed = renewed-of net cells connectors t new.until placed new.places new.timelines new.speeds sound has.around has.one_each is.long most speeds is.later;
+      renewed = renewed-of net cells connectors t new.until placed new.states new.timelines new.speeds sound has.around has.one_each is.long most speeds is.later;
       kept = record {
         long = is.long;
-        only_most = λ p within. most p within ∙ ap {B = Place} (λ m. record (place_at placed.places p) { most = m }) (sym (ap (λ place. place.most) (most p within)));
+        only_most = λ p within. most p within ∙ ap {B = CellState} (λ m. record (cell_state_at placed.states p) { most = m }) (sym (ap (λ state. state.most) (most p within)));
       };
       links_there = rw is.long is.there;
       followed = is.followed (most_out net cells connectors) has.followed;
@@ -185,13 +185,13 @@ speeds-later net cells timelines speeds t until are = record {
   others = are.others;
 }
 
--- places that can be swept as they send can be swept
-pub sound-sending : (places : List Place) (speeds : List (ℕ × ℕ)) → AreSound (at_speeds places speeds) → AreSound places
-sound-sending places speeds sound = record {
+-- states that can be swept as they send can be swept
+pub sound-sending : (states : List CellState) (speeds : List (ℕ × ℕ)) → AreSound (at_speeds states speeds) → AreSound states
+sound-sending states speeds sound = record {
   room = λ p within.
-      let at = at_speeds-at places speeds p within in
-      omega (arith, sound.room p (omega (arith, within, length-at_speeds places speeds)), ap (λ place. place.n) at, ap (λ place. place.space.storage) at);
+      let at = at_speeds-at states speeds p within in
+      omega (arith, sound.room p (omega (arith, within, length-at_speeds states speeds)), ap (λ state. state.n) at, ap (λ state. state.space.storage) at);
   gone = λ p within.
-      let at = at_speeds-at places speeds p within in
-      omega (arith, sound.gone p (omega (arith, within, length-at_speeds places speeds)), ap (λ place. place.n) at, ap (λ place. place.gone) at);
+      let at = at_speeds-at states speeds p within in
+      omega (arith, sound.gone p (omega (arith, within, length-at_speeds states speeds)), ap (λ state. state.n) at, ap (λ state. state.gone) at);
 }

@@ -1,4 +1,4 @@
--- A place after a step has the row of its cell after the step.
+-- The state of a cell after a step makes its row after the step.
 use Rattle.std.proofs.Common.{◌≡◌, ℕ, ◌+◌, ◌-◌, ◌%◌, ◌^◌, ◌<◌, ◌≤◌, inl, inr, true, false, refl, sym, ◌∙◌, arith}
 use Rattle.std.proofs.Math.Nat.{mod-eq_of_lt}
 use Rattle.std.proofs.lemmas.Bool.{cases_Bool}
@@ -7,8 +7,8 @@ use Rattle.network_file.specs.Network.{Network}
 use Rattle.flow_model.specs.Rows.{moved_row}
 use Rattle.flow_model.specs.declared.row.Row.{Row}
 use Rattle.flow_model.proofs.Bounds.{IsChange}
-use Rattle.region_body.specs.Places.{moved}
-use Rattle.region_body.specs.declared.place.Place.{Place}
+use Rattle.region_body.specs.CellStates.{moved}
+use Rattle.region_body.specs.declared.cell_state.CellState.{CellState}
 use Rattle.region_body.specs.Rows.{IsOf, row_of}
 use Rattle.region_body.specs.declared.cell_constants.CellConstants.{CellConstants}
 
@@ -24,28 +24,28 @@ row-road first n gone held enters leaves taken began sums fits =
     let whole : (held + n) % 2 ^ 64 ≡ held + n = mod-eq_of_lt fits in
     (omega arith, omega arith)
 
-pub row-stepped : (net : Network) (t i : ℕ) (constants : CellConstants) (place : Place) (enters leaves : ℕ) → IsOf net i constants place →
-    IsChange net t i place.n enters leaves → (constants.is_exit ≡ false → place.held + place.n < 2 ^ 64) →
-    row_of constants (moved place enters leaves) ≡ moved_row net i (row_of constants place) enters leaves
-row-stepped net t i constants place enters leaves is change fits = elim (cases_Bool constants.is_exit) [
+pub row-stepped : (net : Network) (t i : ℕ) (constants : CellConstants) (state : CellState) (enters leaves : ℕ) → IsOf net i constants state →
+    IsChange net t i state.n enters leaves → (constants.is_exit ≡ false → state.held + state.n < 2 ^ 64) →
+    row_of constants (moved state enters leaves) ≡ moved_row net i (row_of constants state) enters leaves
+row-stepped net t i constants state enters leaves is change fits = elim (cases_Bool constants.is_exit) [
   | inl exit ↦
       let exit_at : is_exit_at net.cells i ≡ true = sym is.exit ∙ exit in
       let none = change.exit exit_at in
       rw (exit, exit_at) (row_same _ refl (omega arith) refl refl)
   | inr other ↦
       let other_at : is_exit_at net.cells i ≡ false = sym is.exit ∙ other in
-      let sums = row-road constants.first place.n place.gone place.held enters leaves change.held (is.began other) (is.sums other) (fits other) in
+      let sums = row-road constants.first state.n state.gone state.held enters leaves change.held (is.began other) (is.sums other) (fits other) in
       rw (other, other_at) (row_same _ refl sums.0 refl sums.1)
 ]
 
-pub stepped-is_of : (net : Network) (t i : ℕ) (constants : CellConstants) (place : Place) (enters leaves : ℕ) → IsOf net i constants place →
-    IsChange net t i place.n enters leaves → (constants.is_exit ≡ false → place.held + place.n < 2 ^ 64) →
-    IsOf net i constants (moved place enters leaves)
-stepped-is_of net t i constants place enters leaves is change fits = record {
+pub stepped-is_of : (net : Network) (t i : ℕ) (constants : CellConstants) (state : CellState) (enters leaves : ℕ) → IsOf net i constants state →
+    IsChange net t i state.n enters leaves → (constants.is_exit ≡ false → state.held + state.n < 2 ^ 64) →
+    IsOf net i constants (moved state enters leaves)
+stepped-is_of net t i constants state enters leaves is change fits = record {
   first = is.first;
   exit = is.exit;
   began = λ other. omega (arith, is.began other, change.held);
   sums = λ other.
-      let whole : (place.held + place.n) % 2 ^ 64 ≡ place.held + place.n = mod-eq_of_lt (fits other) in
+      let whole : (state.held + state.n) % 2 ^ 64 ≡ state.held + state.n = mod-eq_of_lt (fits other) in
       omega (arith, is.sums other, change.held);
 }

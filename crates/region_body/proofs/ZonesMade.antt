@@ -2,11 +2,11 @@
 use Rattle.std.proofs.Common.{◌≡◌, ℕ, zero, suc, ◌+◌, ◌<◌, ◌≤◌, Bool, true, false, inl, inr, List, [], ◌∷◌, ◌++◌, length, add-one, refl, ap, ◌∙◌, subst, arith}
 use Rattle.std.proofs.lemmas.Bool.{cases_lt}
 use Rattle.std.proofs.lemmas.List.{get_or_append_left, get_or_push, length-append}
-use Rattle.region_body.specs.SpeedZones.{AreZones, end_before, is_slow_four, is_whole_four, zone_at}
+use Rattle.region_body.specs.SpeedZones.{AreZones, end_before, is_all_slow_four, is_slow_four, zone_at}
 use Rattle.region_body.specs.declared.speed_zone.SpeedZone.{SpeedZone}
 
 abbrev no_zone : SpeedZone
-no_zone = record { from = 0; to = 0; whole = false }
+no_zone = record { from = 0; to = 0; all_slow = false }
 
 -- the zones before four p; the fours from `from` on up to it are alike, and end no zone yet
 pub record AreZonesTo (slow every : ℕ → Bool) (from p : ℕ) (any all : Bool) (zones : List SpeedZone) : Type 0 where
@@ -16,12 +16,12 @@ pub record AreZonesTo (slow every : ℕ → Bool) (from p : ℕ) (any all : Bool
   pub some : (k : ℕ) → k < length zones → (zone_at zones k).from < (zone_at zones k).to
   pub within : (k : ℕ) → k < length zones → (zone_at zones k).to ≤ from
   pub inside : (k q : ℕ) → k < length zones → (zone_at zones k).from ≤ q → q < (zone_at zones k).to → slow q ≡ true
-  pub whole : (k q : ℕ) → k < length zones → (zone_at zones k).from ≤ q → q < (zone_at zones k).to → every q ≡ (zone_at zones k).whole
+  pub all_slow : (k q : ℕ) → k < length zones → (zone_at zones k).from ≤ q → q < (zone_at zones k).to → every q ≡ (zone_at zones k).all_slow
   pub free : (k q : ℕ) → k < length zones → end_before zones k ≤ q → q < (zone_at zones k).from → slow q ≡ false
   pub behind : end_before zones (length zones) ≤ from
   pub rest : (q : ℕ) → end_before zones (length zones) ≤ q → q < from → slow q ≡ false
-  pub any_slow : (q : ℕ) → from ≤ q → q < p → slow q ≡ any
-  pub all_slow : (q : ℕ) → from ≤ q → q < p → every q ≡ all
+  pub any_so_far : (q : ℕ) → from ≤ q → q < p → slow q ≡ any
+  pub all_so_far : (q : ℕ) → from ≤ q → q < p → every q ≡ all
 
 zone-early : (zones : List SpeedZone) (zone : SpeedZone) (k : ℕ) → k < length zones → zone_at (zones ++ zone ∷ []) k ≡ zone_at zones k
 zone-early zones zone k within = get_or_append_left zones (zone ∷ []) no_zone k within
@@ -44,12 +44,12 @@ zones-none slow every = record {
   some = λ k within. absurd (omega (arith, within));
   within = λ k within. absurd (omega (arith, within));
   inside = λ k q within. absurd (omega (arith, within));
-  whole = λ k q within. absurd (omega (arith, within));
+  all_slow = λ k q within. absurd (omega (arith, within));
   free = λ k q within. absurd (omega (arith, within));
   behind = omega arith;
   rest = λ q from before. absurd (omega (arith, before));
-  any_slow = λ q from before. absurd (omega (arith, before));
-  all_slow = λ q from before. absurd (omega (arith, before));
+  any_so_far = λ q from before. absurd (omega (arith, before));
+  all_so_far = λ q from before. absurd (omega (arith, before));
 }
 
 -- the next four is like those before
@@ -62,16 +62,16 @@ zones-grown slow every from p any all zones are some full = record {
   some = are.some;
   within = are.within;
   inside = are.inside;
-  whole = are.whole;
+  all_slow = are.all_slow;
   free = are.free;
   behind = are.behind;
   rest = are.rest;
-  any_slow = λ q begun before. elim (cases_lt q p) [
-    | inl early ↦ are.any_slow q begun early
+  any_so_far = λ q begun before. elim (cases_lt q p) [
+    | inl early ↦ are.any_so_far q begun early
     | inr late ↦ let e : p ≡ q = omega (arith, late, before) in subst (λ q. slow q ≡ any) e some
   ];
-  all_slow = λ q begun before. elim (cases_lt q p) [
-    | inl early ↦ are.all_slow q begun early
+  all_so_far = λ q begun before. elim (cases_lt q p) [
+    | inl early ↦ are.all_so_far q begun early
     | inr late ↦ let e : p ≡ q = omega (arith, late, before) in subst (λ q. every q ≡ all) e full
   ];
 }
@@ -81,9 +81,9 @@ only f p q from before = let e : q ≡ p = omega (arith, from, before) in ap f e
 
 -- it is not, and a zone ends before it
 pub zones-ended : (slow every : ℕ → Bool) (from p : ℕ) (all : Bool) (zones : List SpeedZone) → AreZonesTo slow every from p true all zones →
-    AreZonesTo slow every p (p + 1) (slow p) (every p) (zones ++ record { from = from; to = p; whole = all } ∷ [])
+    AreZonesTo slow every p (p + 1) (slow p) (every p) (zones ++ record { from = from; to = p; all_slow = all } ∷ [])
 zones-ended slow every from p all_of zones are =
-    let zone : SpeedZone = record { from = from; to = p; whole = all_of } in
+    let zone : SpeedZone = record { from = from; to = p; all_slow = all_of } in
     let all = zones ++ zone ∷ [] in
     let some : from < p = are.begun refl in
     let long : length all ≡ length zones + 1 = length-append zones (zone ∷ []) in
@@ -111,15 +111,15 @@ zones-ended slow every from p all_of zones are =
             are.inside k q early (rw (zone-early zones zone k early) at begun) (rw (zone-early zones zone k early) at before)
         | inr late ↦
             let e : k ≡ length zones = omega (arith, late, within, long) in
-            are.any_slow q (rw (e, last) at begun) (rw (e, last) at before)
+            are.any_so_far q (rw (e, last) at begun) (rw (e, last) at before)
       ];
-      whole = λ k q within begun before. elim (cases_lt k (length zones)) [
+      all_slow = λ k q within begun before. elim (cases_lt k (length zones)) [
         | inl early ↦
             rw (zone-early zones zone k early)
-            (are.whole k q early (rw (zone-early zones zone k early) at begun) (rw (zone-early zones zone k early) at before))
+            (are.all_slow k q early (rw (zone-early zones zone k early) at begun) (rw (zone-early zones zone k early) at before))
         | inr late ↦
             let e : k ≡ length zones = omega (arith, late, within, long) in
-            rw (e, last) (are.all_slow q (rw (e, last) at begun) (rw (e, last) at before))
+            rw (e, last) (are.all_so_far q (rw (e, last) at begun) (rw (e, last) at before))
       ];
       free = λ k q within begun before. elim (cases_lt k (length zones)) [
         | inl early ↦
@@ -130,8 +130,8 @@ zones-ended slow every from p all_of zones are =
       ];
       behind = omega (arith, end);
       rest = λ q begun before. absurd (omega (arith, begun, before, end));
-      any_slow = λ q begun before. only slow p q begun before;
-      all_slow = λ q begun before. only every p q begun before;
+      any_so_far = λ q begun before. only slow p q begun before;
+      all_so_far = λ q begun before. only every p q begun before;
     }
 
 -- it is not, and those before are in no zone
@@ -144,26 +144,26 @@ zones-passed slow every from p all zones are = record {
   some = are.some;
   within = λ k within. omega (arith, are.within k within, are.come);
   inside = are.inside;
-  whole = are.whole;
+  all_slow = are.all_slow;
   free = are.free;
   behind = omega (arith, are.behind, are.come);
   rest = λ q begun before. elim (cases_lt q from) [
     | inl early ↦ are.rest q begun early
-    | inr late ↦ are.any_slow q late before
+    | inr late ↦ are.any_so_far q late before
   ];
-  any_slow = λ q begun before. only slow p q begun before;
-  all_slow = λ q begun before. only every p q begun before;
+  any_so_far = λ q begun before. only slow p q begun before;
+  all_so_far = λ q begun before. only every p q begun before;
 }
 
 -- all of them
 pub zones-all : (slow : ℕ → Bool) (p : ℕ) (any all : Bool) (zones : List SpeedZone) →
-    AreZonesTo (is_slow_four slow) (is_whole_four slow) p (p + 1) any all zones → AreZones slow p zones
+    AreZonesTo (is_slow_four slow) (is_all_slow_four slow) p (p + 1) any all zones → AreZones slow p zones
 zones-all slow p any all zones are = record {
   order = are.order;
   some = are.some;
   within = are.within;
   inside = are.inside;
-  whole = are.whole;
+  all_slow = are.all_slow;
   free = are.free;
   rest = are.rest;
 }

@@ -1,5 +1,5 @@
 -- What the connectors that aren't chained carry in a step.
-use Rattle.std.specs.Prelude.{◌≡◌, ℕ, ◌+◌, ◌^◌, ◌<◌, ◌≤◌, List, [], ◌∷◌, Option, length, slice_index_or, sum_by}
+use Rattle.std.specs.Prelude.{◌≡◌, ◌≢◌, ℕ, ◌+◌, ◌^◌, ◌<◌, ◌≤◌, All, List, [], ◌∷◌, Option, length, slice_index, slice_index_or, sum_by}
 use Rattle.network_file.specs.Connectors.{connector_at}
 use Rattle.network_file.specs.Network.{Network}
 use Rattle.connector_flow.specs.Flows.{flow_at}
@@ -7,17 +7,24 @@ use Rattle.connector_flow.specs.Following.{IsTimelineOf}
 use Rattle.connector_flow.specs.declared.rule.Rule.{Rule}
 use Rattle.connector_flow.specs.declared.rule.Rule.TheVariants.{Linking, Merging, Diverging}
 use Rattle.flow_model.specs.declared.carried.Flow.{Flow}
+use Rattle.region_body.specs.Chains.{AreDistinct}
 use Rattle.region_body.specs.CellRefs.{AreRefsOf, IsWithin, held_before, parts_at, ref_at}
-use Rattle.region_body.specs.Places.{place_at, with_entered, with_left}
+use Rattle.region_body.specs.CellStates.{cell_state_at, with_entered, with_left}
 use Rattle.region_body.specs.declared.cell_ref.CellRef.{CellRef}
-use Rattle.region_body.specs.declared.place.Place.{Place}
+use Rattle.region_body.specs.declared.cell_state.CellState.{CellState}
 use Rattle.region_body.specs.declared.followed_connector.FollowedConnector.{FollowedConnector}
 
--- the connector is one of the network: its cells and what it carries are as there
-pub record IsConnected (net : Network) (cells halo : List ℕ) (connector : FollowedConnector) : Type 0 where
+-- the connector is one of the network: it finds its cells among these and those of the halo, and carries what the network has it carry
+pub record IsConnectorAmong (net : Network) (cells halo : List ℕ) (connector : FollowedConnector) : Type 0 where
   pub there : connector.number < length net.connectors
   pub refs : AreRefsOf cells halo (connector_at net.connectors connector.number) connector.cells
   pub timeline : IsTimelineOf net (connector_at net.connectors connector.number) connector.timeline
+
+-- so are these, where no cell stands at two places and none of the halo is one of the region's own
+pub record AreConnectorsAmong (net : Network) (cells halo : List ℕ) (connectors : List FollowedConnector) : Type 0 where
+  pub distinct : AreDistinct cells
+  pub apart : (p j : ℕ) → p < length cells → j < length halo → slice_index cells p ≢ slice_index halo j
+  pub each : All (IsConnectorAmong net cells halo) connectors
 
 -- what its three cells hold
 abbrev pub three_held : FollowedConnector → (held : CellRef → ℕ) → List ℕ
@@ -27,9 +34,9 @@ three_held connector held = held (ref_at connector.cells 0) ∷ held (ref_at con
 abbrev pub carried_of : (t : ℕ) → FollowedConnector → (held : CellRef → ℕ) → Flow
 carried_of t connector held = flow_at connector.timeline t (three_held connector held)
 
--- it can carry it: its cells are there, and its limits are those of the step
-pub record CanCarry (t : ℕ) (connector : FollowedConnector) (places : List Place) (put : List (Option ℕ)) : Type 0 where
-  pub refs : (m : ℕ) → m < 3 → IsWithin (length places) put (ref_at connector.cells m)
+-- it can carry it: its cells are there, where the region has so many of its own, and its limits are those of the step
+pub record CanCarry (t : ℕ) (connector : FollowedConnector) (count : ℕ) (put : List (Option ℕ)) : Type 0 where
+  pub refs : (m : ℕ) → m < 3 → IsWithin count put (ref_at connector.cells m)
   pub step : connector.timeline.step ≤ t
   pub until : t < connector.timeline.until
 
@@ -65,32 +72,32 @@ taken t held p connector = taken_by connector.timeline.rule connector (carried_o
 unfoldable pub brought : (t : ℕ) → (held : CellRef → ℕ) → (p : ℕ) → FollowedConnector → ℕ
 brought t held p connector = brought_by connector.timeline.rule connector (carried_of t connector held) p
 
--- a place from which so much was taken and to which so much was brought
-abbrev pub passed : Place → (enters leaves : ℕ) → Place
-passed place enters leaves = with_entered (with_left place leaves) enters
+-- a state from which so much was taken and to which so much was brought
+abbrev pub passed : CellState → (enters leaves : ℕ) → CellState
+passed state enters leaves = with_entered (with_left state leaves) enters
 
 -- it holds so much, and no sum is too large
-pub record CanPass (place : Place) (enters leaves : ℕ) : Type 0 where
-  pub held : leaves ≤ place.n
-  pub gone : place.gone + leaves < 2 ^ 64
-  pub fits : place.n + enters < 2 ^ 64
+pub record CanPass (state : CellState) (enters leaves : ℕ) : Type 0 where
+  pub held : leaves ≤ state.n
+  pub gone : state.gone + leaves < 2 ^ 64
+  pub fits : state.n + enters < 2 ^ 64
 
--- so can each place what this connector takes from it and brings to it in step t, by what the cells held before
-abbrev pub CanConnectorPass : (t : ℕ) → (before : List ℕ) → (put : List (Option ℕ)) → FollowedConnector → List Place → Type 0
-CanConnectorPass t before put connector places =
-    (p : ℕ) → p < length places → CanPass (place_at places p) (brought t (held_before before put) p connector) (taken t (held_before before put) p connector)
+-- so can each state what this connector takes from it and brings to it in step t, by what the cells held before
+abbrev pub CanConnectorPass : (t : ℕ) → (before : List ℕ) → (put : List (Option ℕ)) → FollowedConnector → List CellState → Type 0
+CanConnectorPass t before put connector states =
+    (p : ℕ) → p < length states → CanPass (cell_state_at states p) (brought t (held_before before put) p connector) (taken t (held_before before put) p connector)
 
 -- and it has
-abbrev pub HasConnectorPassed : (t : ℕ) → (before : List ℕ) → (put : List (Option ℕ)) → FollowedConnector → (old new : List Place) → Type 0
+abbrev pub HasConnectorPassed : (t : ℕ) → (before : List ℕ) → (put : List (Option ℕ)) → FollowedConnector → (old new : List CellState) → Type 0
 HasConnectorPassed t before put connector old new =
-    (p : ℕ) → p < length old → place_at new p ≡ passed (place_at old p) (brought t (held_before before put) p connector) (taken t (held_before before put) p connector)
+    (p : ℕ) → p < length old → cell_state_at new p ≡ passed (cell_state_at old p) (brought t (held_before before put) p connector) (taken t (held_before before put) p connector)
 
 -- the same of what all these connectors take and bring
-abbrev pub CanConnectorsPass : (t : ℕ) → (before : List ℕ) → (put : List (Option ℕ)) → List FollowedConnector → List Place → Type 0
-CanConnectorsPass t before put connectors places =
-    (p : ℕ) → p < length places → CanPass (place_at places p) (sum_by (brought t (held_before before put) p) connectors) (sum_by (taken t (held_before before put) p) connectors)
+abbrev pub CanConnectorsPass : (t : ℕ) → (before : List ℕ) → (put : List (Option ℕ)) → List FollowedConnector → List CellState → Type 0
+CanConnectorsPass t before put connectors states =
+    (p : ℕ) → p < length states → CanPass (cell_state_at states p) (sum_by (brought t (held_before before put) p) connectors) (sum_by (taken t (held_before before put) p) connectors)
 
-abbrev pub HaveConnectorsPassed : (t : ℕ) → (before : List ℕ) → (put : List (Option ℕ)) → List FollowedConnector → (old new : List Place) → Type 0
+abbrev pub HaveConnectorsPassed : (t : ℕ) → (before : List ℕ) → (put : List (Option ℕ)) → List FollowedConnector → (old new : List CellState) → Type 0
 HaveConnectorsPassed t before put connectors old new =
     (p : ℕ) → p < length old →
-    place_at new p ≡ passed (place_at old p) (sum_by (brought t (held_before before put) p) connectors) (sum_by (taken t (held_before before put) p) connectors)
+    cell_state_at new p ≡ passed (cell_state_at old p) (sum_by (brought t (held_before before put) p) connectors) (sum_by (taken t (held_before before put) p) connectors)

@@ -3,10 +3,10 @@ use Rattle.std.specs.Prelude.{◌==◌, ⊤, ℕ, ◌<◌, List, Option, None, l
 use Rattle.network_file.specs.declared.connector.Connector.{Connector}
 use Rattle.region_cut.specs.ConnectorCells.{three_cells}
 use Rattle.region_body.specs.Joining.{IsPlacedAt}
-use Rattle.region_body.specs.Places.{place_at}
+use Rattle.region_body.specs.CellStates.{cell_state_at}
 use Rattle.region_body.specs.declared.cell_ref.CellRef.{CellRef}
 use Rattle.region_body.specs.declared.cell_ref.CellRef.TheVariants.{Own, Halo}
-use Rattle.region_body.specs.declared.place.Place.{Place}
+use Rattle.region_body.specs.declared.cell_state.CellState.{CellState}
 
 -- cell i is found so, among the region's own and those of its halo
 abbrev pub IsRefOf : (cells halo : List ℕ) → (i : ℕ) → CellRef → Type 0
@@ -36,9 +36,9 @@ abbrev pub put_at : (put : List (Option ℕ)) → (j : ℕ) → ℕ
 put_at put j = unwrap_or (slice_index_or put j None) 0
 
 -- what a cell holds now
-abbrev pub held_in : List Place → (put : List (Option ℕ)) → CellRef → ℕ
-held_in places put (Own p) = (place_at places p).n
-held_in places put (Halo j) = put_at put j
+abbrev pub held_in : List CellState → (put : List (Option ℕ)) → CellRef → ℕ
+held_in states put (Own p) = (cell_state_at states p).n
+held_in states put (Halo j) = put_at put j
 
 -- and what it held as the step began
 abbrev pub held_before : (before : List ℕ) → (put : List (Option ℕ)) → CellRef → ℕ

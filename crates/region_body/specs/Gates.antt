@@ -1,4 +1,4 @@
--- The gates among the places, and what they demand.
+-- The gates among the cells, and what they demand.
 use Rattle.std.specs.Prelude.{◌≡◌, ◌==◌, ℕ, ◌<◌, ◌≤◌, List, length, slice_index, slice_index_or, if◌then◌else◌}
 use Rattle.network_file.specs.Network.{Network}
 use Rattle.signal_plan.specs.Demand.{demand_at}

@@ -1,4 +1,4 @@
--- A place is joined to the next.
+-- A cell is joined to the next.
 use Rattle.std.specs.Prelude.{◌≡◌, ◌≢◌, ◌<◌, ◌⊎◌, ℕ, ◌+◌, Bool, true, All, List, length, slice_index}
 use Rattle.std.specs.List.{Contains}
 use Rattle.network_file.specs.declared.connector.Connector.{Connector}

@@ -1,4 +1,4 @@
-pub mod Places
+pub mod CellStates
 pub mod SpeedZones
 pub mod Speeds
 pub mod Sweeping
@@ -9,7 +9,6 @@ pub mod SpeedFactors
 pub mod Rows
 pub mod CellRefs
 pub mod Carrying
-pub mod Moves
 pub mod Gates
 pub mod Waiting
 pub mod Pausing

@@ -1,4 +1,4 @@
--- The rows of some cells, kept as places side by side.
+-- The rows of some cells, kept as states in their order.
 use Rattle.std.specs.Prelude.{◌≡◌, ◌≢◌, ℕ, ◌-◌, ◌/◌, ◌^◌, ◌<◌, ◌≤◌, All, List, Option, length, map, slice_index}
 use Rattle.std.specs.List.{filter, range_with_len}
 use Rattle.std.specs.List.Sorted.{IsStrictlyIncreasing}
@@ -9,15 +9,15 @@ use Rattle.flow_model.specs.Bounds.{IsHeldInBounds, IsRowInBounds}
 use Rattle.flow_model.specs.Limits.{room_at}
 use Rattle.flow_model.specs.State.{row_at}
 use Rattle.region_body.specs.CellRefs.{put_at}
-use Rattle.region_body.specs.Places.{place_at}
+use Rattle.region_body.specs.CellStates.{cell_state_at}
 use Rattle.connector_flow.specs.Space.{IsSpaceOf}
-use Rattle.region_body.specs.declared.place.Place.{Place}
+use Rattle.region_body.specs.declared.cell_state.CellState.{CellState}
 use Rattle.timelines.specs.Timelines.{value_at}
 use Rattle.region_body.specs.FollowedLinks.{AreFollowed, IsLinkThere}
 use Rattle.region_body.specs.declared.followed_link.FollowedLink.{FollowedLink}
 use Rattle.region_body.specs.Chains.{AreAround, most_out, odd_ones}
 use Rattle.region_body.specs.Joining.{AreKnown}
-use Rattle.region_body.specs.Moves.{AreConnected, IsSeen}
+use Rattle.region_body.specs.Carrying.{AreConnectorsAmong}
 use Rattle.region_body.specs.Pausing.{IsPauseOf}
 use Rattle.region_body.specs.Rows.{IsOf, constants_at, rows_of}
 use Rattle.region_body.specs.SpeedZones.{AreZones}
@@ -31,11 +31,11 @@ use Rattle.region_body.specs.declared.pause.Pause.{Pause}
 use Rattle.region_body.specs.declared.followed_connector.FollowedConnector.{FollowedConnector}
 
 pub record PlacedCells : Type 0 where
-  -- a place for each cell, what never changes of it, and what it held a step before
-  pub places : List Place
+  -- a state for each cell, what never changes of it, and what it held a step before
+  pub states : List CellState
   pub constants : List CellConstants
   pub before : List ℕ
-  -- the speed at each place, where places lie whose cells have speed records, and how these change, none before a step
+  -- the speed at each place, where cells lie that have speed records, and how these change, none before a step
   pub speeds : List (ℕ × ℕ)
   pub zones : List SpeedZone
   pub speed_timelines : List FollowedSpeed
@@ -50,33 +50,38 @@ pub record PlacedCells : Type 0 where
   pub pause : Pause
   pub seen : List (Option ℕ)
 
--- what holds of the cells' places as step t begins
+-- what holds of cells as they are placed when step t begins
 pub record ArePlaced (net : Network) (cells halo connectors : List ℕ) (t : ℕ) (placed : PlacedCells) : Type 0 where
   pub around : AreAround net cells connectors
   pub known : All (λ k. AreKnown cells halo (connector_at net.connectors k)) connectors
-  pub connected : AreConnected net cells halo placed.connectors
+  pub connected : AreConnectorsAmong net cells halo placed.connectors
   pub numbers : map (λ connector. connector.number) placed.connectors ≡ odd_ones net cells connectors
-  pub one_each : length placed.places ≡ length cells
+  pub one_each : length placed.states ≡ length cells
   pub constants_each : length placed.constants ≡ length cells
   pub before_each : length placed.before ≡ length cells
-  pub own : (p : ℕ) → p < length cells → IsOf net (slice_index cells p) (constants_at placed.constants p) (place_at placed.places p)
-  pub space : (p : ℕ) → p < length cells → IsSpaceOf (place_at placed.places p).space (room_at net.cells (slice_index cells p))
+  pub own : (p : ℕ) → p < length cells → IsOf net (slice_index cells p) (constants_at placed.constants p) (cell_state_at placed.states p)
+  pub space : (p : ℕ) → p < length cells → IsSpaceOf (cell_state_at placed.states p).space (room_at net.cells (slice_index cells p))
   pub come : All (λ connector. connector.timeline.step ≤ t) placed.connectors
   pub unchanged : All (λ connector. placed.connectors_until ≤ connector.timeline.until) placed.connectors
   pub gates : map (λ gate. gate.place) placed.gates ≡ filter (λ p. is_gate_at net.cells (slice_index cells p)) (range_with_len 0 (length cells))
   pub demands : All (IsGateOf net cells t) placed.gates
-  pub links : All (IsLinkThere (length placed.places) t) placed.links
+  pub links : All (IsLinkThere (length placed.states) t) placed.links
   pub speeds : AreSpeedsOf net cells placed.speed_timelines placed.speeds t placed.speeds_until
   pub zones : AreZones (is_slow net cells) ((length cells - 1) / 4) placed.zones
-  pub followed : AreFollowed (most_out net cells connectors) placed.places placed.links t
-  pub pause : IsPauseOf placed.places placed.before placed.speeds placed.speeds_until placed.links placed.connectors placed.seen t placed.pause
+  pub followed : AreFollowed (most_out net cells connectors) placed.states placed.links t
+  pub pause : IsPauseOf placed.states placed.before placed.speeds placed.speeds_until placed.links placed.connectors placed.seen t placed.pause
   pub seen_each : length placed.seen ≡ length halo
 
 -- the rows are in bounds, and so is what was put for each cell of the halo
-pub record ArePlacesInBounds (net : Network) (cells halo : List ℕ) (t : ℕ) (placed : PlacedCells) (put : List (Option ℕ)) : Type 0 where
-  pub own : (p : ℕ) → p < length cells → IsRowInBounds net t (slice_index cells p) (row_at (rows_of placed.constants placed.places) p)
+pub record AreStatesInBounds (net : Network) (cells halo : List ℕ) (t : ℕ) (placed : PlacedCells) (put : List (Option ℕ)) : Type 0 where
+  pub own : (p : ℕ) → p < length cells → IsRowInBounds net t (slice_index cells p) (row_at (rows_of placed.constants placed.states) p)
   pub put_each : length put ≡ length halo
   pub around : (j : ℕ) → j < length halo → IsHeldInBounds net t (slice_index halo j) (put_at put j)
+
+-- the cells hold n: those of the region by their states, those of its halo by what was put there
+pub record IsSeen (n : ℕ → ℕ) (cells halo : List ℕ) (states : List CellState) (put : List (Option ℕ)) : Type 0 where
+  pub own : (p : ℕ) → p < length cells → n (slice_index cells p) ≡ (cell_state_at states p).n
+  pub around : (j : ℕ) → j < length halo → n (slice_index halo j) ≡ put_at put j
 
 -- all that a step stands on; the cells hold n as it begins
 pub record CanAdvance (net : Network) (cells : List ℕ) (t : ℕ) (placed : PlacedCells) (put : List (Option ℕ)) : Type 0 where
@@ -84,8 +89,8 @@ pub record CanAdvance (net : Network) (cells : List ℕ) (t : ℕ) (placed : Pla
   pub connectors : List ℕ
   pub n : ℕ → ℕ
   pub laid : ArePlaced net cells halo connectors t placed
-  pub bounds : ArePlacesInBounds net cells halo t placed put
-  pub seen : IsSeen n cells halo placed.places put
+  pub bounds : AreStatesInBounds net cells halo t placed put
+  pub seen : IsSeen n cells halo placed.states put
 
 -- nothing moves among the cells in step t: their pause isn't over, their halo holds what was seen, and no gate demands anything
 pub record WaitThrough (t : ℕ) (placed : PlacedCells) (put : List (Option ℕ)) : Type 0 where

@@ -1,13 +1,15 @@
 ghost use Rattle.std.specs.Prelude.{◌≡◌, ◌≤◌, All, length};
 ghost use Rattle.connector_flow.specs.declared.rule.Rule.TheVariants.{Diverging, Linking, Merging};
-ghost use Rattle.region_body.specs.Carrying.{CanCarry, CanConnectorPass, CanConnectorsPass, HasConnectorPassed, HaveConnectorsPassed};
+ghost use Rattle.region_body.specs.Carrying.{CanCarry, CanConnectorPass, CanConnectorsPass, HasConnectorPassed, HaveConnectorsPassed, carried_of};
+ghost use Rattle.region_body.specs.CellRefs.{held_before};
 
+use crate::cell_state::CellState;
 use crate::followed_connector::FollowedConnector;
 use crate::passing::{bring, take};
-use crate::place::Place;
 use connector_flow::Rule;
+use flow_model::Flow;
 
-/// What all these connectors take from places and bring to them in step `t`, by what was noted of the cells as it began and
+/// What all these connectors take from cells and bring to them in step `t`, by what was noted of the cells as it began and
 /// what was put for the halo.
 #[inline(never)]
 pub(crate) fn carry_all(
@@ -15,15 +17,15 @@ pub(crate) fn carry_all(
     connectors: &[FollowedConnector],
     before: &[u64],
     put: &[Option<u64>],
-    places: &mut [Place],
+    states: &mut [CellState],
 )
-    requires each { All (λ connector. CanCarry t connector places.old put.now) connectors.now }
-    requires one_each { length before.now ≡ length places.old }
-    requires can { CanConnectorsPass t before.now put.now connectors.now places.old }
-    ensures { HaveConnectorsPassed t before.now put.now connectors.now places.old places.new }
+    requires each { All (λ connector. CanCarry t connector (length states.old) put.now) connectors.now }
+    requires one_each { length before.now ≡ length states.old }
+    requires can { CanConnectorsPass t before.now put.now connectors.now states.old }
+    ensures { HaveConnectorsPassed t before.now put.now connectors.now states.old states.new }
 {
     for connector in connectors {
-        carry(t, connector, before, put, places);
+        carry(t, connector, before, put, states);
     }
 }
 
@@ -34,17 +36,17 @@ fn carry(
     connector: &FollowedConnector,
     before: &[u64],
     put: &[Option<u64>],
-    places: &mut [Place],
+    states: &mut [CellState],
 )
-    requires connector { CanCarry t connector.now places.old put.now }
-    requires one_each { length before.now ≡ length places.old }
-    requires can { CanConnectorPass t before.now put.now connector.now places.old }
-    ensures { HasConnectorPassed t before.now put.now connector.now places.old places.new }
+    requires connector { CanCarry t connector.now (length states.old) put.now }
+    requires one_each { length before.now ≡ length states.old }
+    requires can { CanConnectorPass t before.now put.now connector.now states.old }
+    ensures { HasConnectorPassed t before.now put.now connector.now states.old states.new }
 {
     match connector.timeline.rule() {
-        Rule::Linking => link(t, connector, before, put, places),
-        Rule::Merging => merge(t, connector, before, put, places),
-        Rule::Diverging => diverge(t, connector, before, put, places),
+        Rule::Linking => link(t, connector, before, put, states),
+        Rule::Merging => merge(t, connector, before, put, states),
+        Rule::Diverging => diverge(t, connector, before, put, states),
     }
 }
 
@@ -55,19 +57,18 @@ fn link(
     connector: &FollowedConnector,
     before: &[u64],
     put: &[Option<u64>],
-    places: &mut [Place],
+    states: &mut [CellState],
 )
     requires rule { connector.now.timeline.rule ≡ Linking }
-    requires connector { CanCarry t connector.now places.old put.now }
-    requires one_each { length before.now ≡ length places.old }
-    requires can { CanConnectorPass t before.now put.now connector.now places.old }
-    ensures { HasConnectorPassed t before.now put.now connector.now places.old places.new }
+    requires connector { CanCarry t connector.now (length states.old) put.now }
+    requires one_each { length before.now ≡ length states.old }
+    requires can { CanConnectorPass t before.now put.now connector.now states.old }
+    ensures { HasConnectorPassed t before.now put.now connector.now states.old states.new }
 {
     let [a, b, _] = connector.cells;
-    let n = [a.held_before(before, put), b.held_before(before, put), 0];
-    let flow = connector.timeline.flow(n);
-    take(places, a, flow.out1);
-    bring(places, b, flow.in1);
+    let flow = carried(t, connector, before, put);
+    take(states, a, flow.out1);
+    bring(states, b, flow.in1);
 }
 
 // A merge, from the first and the second to the third.
@@ -77,24 +78,19 @@ fn merge(
     connector: &FollowedConnector,
     before: &[u64],
     put: &[Option<u64>],
-    places: &mut [Place],
+    states: &mut [CellState],
 )
     requires rule { connector.now.timeline.rule ≡ Merging }
-    requires connector { CanCarry t connector.now places.old put.now }
-    requires one_each { length before.now ≡ length places.old }
-    requires can { CanConnectorPass t before.now put.now connector.now places.old }
-    ensures { HasConnectorPassed t before.now put.now connector.now places.old places.new }
+    requires connector { CanCarry t connector.now (length states.old) put.now }
+    requires one_each { length before.now ≡ length states.old }
+    requires can { CanConnectorPass t before.now put.now connector.now states.old }
+    ensures { HasConnectorPassed t before.now put.now connector.now states.old states.new }
 {
     let [a, b, c] = connector.cells;
-    let n = [
-        a.held_before(before, put),
-        b.held_before(before, put),
-        c.held_before(before, put),
-    ];
-    let flow = connector.timeline.flow(n);
-    take(places, a, flow.out1);
-    take(places, b, flow.out2);
-    bring(places, c, flow.in1);
+    let flow = carried(t, connector, before, put);
+    take(states, a, flow.out1);
+    take(states, b, flow.out2);
+    bring(states, c, flow.in1);
 }
 
 // A diverge, from the first to the second and the third.
@@ -104,22 +100,31 @@ fn diverge(
     connector: &FollowedConnector,
     before: &[u64],
     put: &[Option<u64>],
-    places: &mut [Place],
+    states: &mut [CellState],
 )
     requires rule { connector.now.timeline.rule ≡ Diverging }
-    requires connector { CanCarry t connector.now places.old put.now }
-    requires one_each { length before.now ≡ length places.old }
-    requires can { CanConnectorPass t before.now put.now connector.now places.old }
-    ensures { HasConnectorPassed t before.now put.now connector.now places.old places.new }
+    requires connector { CanCarry t connector.now (length states.old) put.now }
+    requires one_each { length before.now ≡ length states.old }
+    requires can { CanConnectorPass t before.now put.now connector.now states.old }
+    ensures { HasConnectorPassed t before.now put.now connector.now states.old states.new }
 {
     let [a, b, c] = connector.cells;
-    let n = [
+    let flow = carried(t, connector, before, put);
+    take(states, a, flow.out1);
+    bring(states, b, flow.in1);
+    bring(states, c, flow.in2);
+}
+
+// What it carries, by what its cells held as the step began.
+#[inline(always)]
+fn carried(t: u64, connector: &FollowedConnector, before: &[u64], put: &[Option<u64>]) -> Flow
+    requires { CanCarry t connector.now (length before.now) put.now }
+    ensures { result ≡ carried_of t connector.now (held_before before.now put.now) }
+{
+    let [a, b, c] = connector.cells;
+    connector.timeline.flow([
         a.held_before(before, put),
         b.held_before(before, put),
         c.held_before(before, put),
-    ];
-    let flow = connector.timeline.flow(n);
-    take(places, a, flow.out1);
-    bring(places, b, flow.in1);
-    bring(places, c, flow.in2);
+    ])
 }

@@ -1,10 +1,10 @@
 ghost use Rattle.std.specs.Prelude.{◌≡◌};
 ghost use Rattle.region_body.specs.Rows.{IsSettled, row_of};
 
-use crate::place::Place;
+use crate::cell_state::CellState;
 use flow_model::Row;
 
-/// What never changes of a cell, and makes its row of its place.
+/// What never changes of a cell, and makes its row of its state.
 #[derive(Clone, Copy)]
 pub(crate) struct CellConstants {
     /// What it holds at step 0.
@@ -14,12 +14,12 @@ pub(crate) struct CellConstants {
 }
 
 impl CellConstants {
-    /// The row of the cell at its place.
-    pub(crate) fn row(self, place: &Place) -> Row
-        requires { IsSettled self place.now }
-        ensures { result ≡ row_of self place.now }
+    /// The row of the cell in this state.
+    pub(crate) fn row(self, state: &CellState) -> Row
+        requires { IsSettled self state.now }
+        ensures { result ≡ row_of self state.now }
     {
-        let (n, gone) = (place.n, place.gone);
+        let (n, gone) = (state.n, state.gone);
         if self.is_exit {
             return Row {
                 n,
@@ -32,7 +32,7 @@ impl CellConstants {
             n,
             come: n + gone - self.first,
             gone,
-            wait: place.held - gone,
+            wait: state.held - gone,
         }
     }
 }

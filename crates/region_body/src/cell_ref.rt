@@ -5,29 +5,29 @@ ghost use Rattle.chain_order.specs.Order.{IsOrder};
 ghost use Rattle.region_body.specs.CellRefs.{AreRefsOf, IsRefOf, IsWithin, held_before, held_in, put_at};
 ghost use Rattle.region_body.specs.Joining.{AreKnown, IsKnown};
 
+use crate::cell_state::CellState;
 use crate::cells::Cells;
 use crate::own_place::own_place;
-use crate::place::Place;
 use network_file::Net;
 use region_cut::{place, three_cells};
 
 /// Where a region finds a cell of one of its connectors.
 #[derive(Clone, Copy)]
 pub(crate) enum CellRef {
-    /// At this place of its own.
+    /// One of its own, at this place.
     Own(u32),
-    /// At this place in its halo.
+    /// The one of this index in its halo.
     Halo(u32),
 }
 
 impl CellRef {
-    /// What the cell holds, by the region's places and what was put for its halo.
-    pub(crate) fn held_in(self, places: &[Place], put: &[Option<u64>]) -> u64
-        requires { IsWithin (length places.now) put.now self }
-        ensures { result ≡ held_in places.now put.now self }
+    /// What the cell holds, by the region's states and what was put for its halo.
+    pub(crate) fn held_in(self, states: &[CellState], put: &[Option<u64>]) -> u64
+        requires { IsWithin (length states.now) put.now self }
+        ensures { result ≡ held_in states.now put.now self }
     {
         match self {
-            CellRef::Own(p) => places[p as usize].n,
+            CellRef::Own(p) => states[p as usize].n,
             CellRef::Halo(j) => put_at(put, j),
         }
     }

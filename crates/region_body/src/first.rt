@@ -4,7 +4,7 @@ ghost use Rattle.network_file.specs.Cells.{is_exit_at};
 ghost use Rattle.region_body.specs.First.{AreConstantsOf, IsFirst};
 
 use crate::cell_constants::CellConstants;
-use crate::place::Place;
+use crate::cell_state::CellState;
 use connector_flow::space_of;
 use flow_model::Row;
 use network_file::{Kind, Net};
@@ -21,15 +21,15 @@ pub(crate) fn cell_constants_of(net: &Net, i: u32) -> CellConstants
     }
 }
 
-/// The place of cell `i` with this row at step `t`, joined to no other.
-pub(crate) fn place_of(net: &Net, t: u64, i: u32, row: &Row) -> Place
+/// The state of cell `i` with this row at step `t`, joined to no other.
+pub(crate) fn state_of(net: &Net, t: u64, i: u32, row: &Row) -> CellState
     requires there { i < length net.now.cells }
     requires in_time { t ≤ net.now.steps }
     requires bounds { IsRowInBounds net.now t i row.now }
     ensures { IsFirst net.now i row.now result }
 {
     let _steps = net.steps;
-    Place {
+    CellState {
         n: row.n,
         gone: row.gone,
         held: row.wait + row.gone,

@@ -2,7 +2,7 @@ ghost use Rattle.std.specs.Prelude.{◌≡◌, ◌≤◌, ◌<◌, ◌^◌, All,
 ghost use Rattle.std.specs.List.Sorted.{IsStrictlyIncreasing};
 ghost use Rattle.network_file.specs.Connectors.{connector_at};
 ghost use Rattle.chain_order.specs.Order.{IsOrder};
-ghost use Rattle.region_body.specs.Carrying.{AreConnectorsFollowed, IsConnected, IsConnectorFollowed};
+ghost use Rattle.region_body.specs.Carrying.{AreConnectorsFollowed, IsConnectorAmong, IsConnectorFollowed};
 ghost use Rattle.region_body.specs.Joining.{AreKnown};
 
 use crate::cell_ref::{CellRef, refs_of};
@@ -13,7 +13,7 @@ use no_memory::NoMemory;
 use signal_plan::MOST_STEPS;
 use std::alloc::Global;
 
-/// A connector that isn't a link from a place to the next.
+/// A connector that isn't a link from a cell to the next.
 #[derive(Drop)]
 pub(crate) struct FollowedConnector {
     /// Its number in the network.
@@ -39,7 +39,7 @@ pub(crate) fn connector_of(
     requires few { length region.now.cells.now < 2 ^ 32 }
     requires few_halo { length region.now.halo.now < 2 ^ 32 }
     ensures number { IfOk result (λ connector. connector.number ≡ k) }
-    ensures connected { IfOk result (IsConnected net.now region.now.order.now.placed region.now.halo.now) }
+    ensures connected { IfOk result (IsConnectorAmong net.now region.now.order.now.placed region.now.halo.now) }
     ensures step { IfOk result (λ connector. connector.timeline.step ≡ 0) }
 {
     Ok(FollowedConnector {

@@ -3,15 +3,15 @@ ghost use Rattle.std.specs.List.{filter, range_with_len};
 ghost use Rattle.network_file.specs.Cells.{is_gate_at};
 ghost use Rattle.flow_model.specs.Bounds.{IsRowInBounds};
 ghost use Rattle.flow_model.specs.State.{row_at};
-ghost use Rattle.region_body.specs.Places.{place_at};
+ghost use Rattle.region_body.specs.CellStates.{cell_state_at};
 ghost use Rattle.region_body.specs.First.{AreConstantsOf, IsFirst};
 ghost use Rattle.region_body.specs.Gates.{IsGateOf};
 ghost use Rattle.region_body.specs.Rows.{constants_at};
 
 use crate::cell_constants::CellConstants;
-use crate::first::{cell_constants_of, place_of};
+use crate::cell_state::CellState;
+use crate::first::{cell_constants_of, state_of};
 use crate::gate::GatePlace;
-use crate::place::Place;
 use flow_model::Row;
 use network_file::{Kind, Net};
 use no_memory::NoMemory;
@@ -36,27 +36,27 @@ pub(crate) fn constants_of(
     Ok(constants)
 }
 
-/// The places of these cells with their rows at step `t`, none joined to another.
-pub(crate) fn places_of(
+/// The states of these cells with their rows at step `t`, none joined to another.
+pub(crate) fn states_of(
     alloc: Global,
     net: &Net,
     t: u64,
     cells: &[u32],
     rows: &[Row],
-) -> Result<Vec<Place>, NoMemory>
+) -> Result<Vec<CellState>, NoMemory>
     requires there { All (λ i. i < length net.now.cells) cells.now }
     requires in_time { t ≤ net.now.steps }
     requires rows { All (λ i. i < length rows.now) cells.now }
     requires bounds { All (λ i. IsRowInBounds net.now t i (row_at rows.now i)) cells.now }
-    ensures one_each { IfOk result (λ places. length places.items ≡ length cells.now) }
-    ensures each { IfOk result (λ places. (p : ℕ) → p < length cells.now →
-        IsFirst net.now (slice_index cells.now p) (row_at rows.now (slice_index cells.now p)) (place_at places.items p)) }
+    ensures one_each { IfOk result (λ states. length states.items ≡ length cells.now) }
+    ensures each { IfOk result (λ states. (p : ℕ) → p < length cells.now →
+        IsFirst net.now (slice_index cells.now p) (row_at rows.now (slice_index cells.now p)) (cell_state_at states.items p)) }
 {
-    let mut places = Vec::with_capacity(alloc, cells.len())?;
+    let mut states = Vec::with_capacity(alloc, cells.len())?;
     for i in cells {
-        places.push(place_of(net, t, *i, &rows[*i as usize]))?;
+        states.push(state_of(net, t, *i, &rows[*i as usize]))?;
     }
-    Ok(places)
+    Ok(states)
 }
 
 /// What these cells held earlier.
@@ -75,11 +75,11 @@ pub(crate) fn earlier_of(
     Ok(before)
 }
 
-/// Nothing is put at so many places yet.
-pub fn nothing_put(alloc: Global, places: usize) -> Result<Vec<Option<u64>>, NoMemory>
-    ensures { IfOk result (λ put. put.items ≡ replicate places None) }
+/// Nothing is put for so many cells of a halo yet.
+pub fn nothing_put(alloc: Global, cells: usize) -> Result<Vec<Option<u64>>, NoMemory>
+    ensures { IfOk result (λ put. put.items ≡ replicate cells None) }
 {
-    Ok(vec![in alloc; None; places]?)
+    Ok(vec![in alloc; None; cells]?)
 }
 
 /// The gates among these cells, at step 0.

@@ -1,25 +1,25 @@
 ghost use Rattle.std.specs.Prelude.{◌≡◌, ◌<◌, ◌≤◌, ◌⊎◌, ℕ, All, IsTrue, length};
 ghost use Rattle.connector_flow.specs.Flows.{flow_at, no_flow};
-ghost use Rattle.region_body.specs.Places.{AreSound, place_at};
+ghost use Rattle.region_body.specs.CellStates.{AreSound, cell_state_at};
 ghost use Rattle.region_body.specs.Carrying.{three_held};
 ghost use Rattle.region_body.specs.CellRefs.{IsWithin, held_in, ref_at};
 ghost use Rattle.region_body.specs.Pausing.{AreIdle, IsIdleUntil};
 
+use crate::cell_state::CellState;
 use crate::followed_connector::FollowedConnector;
 use crate::followed_link::FollowedLink;
 use crate::movement::moving;
-use crate::place::Place;
 use crate::speed_factor::SpeedFactor;
 
 /// For how long nothing moves among cells.
 #[derive(Clone, Copy)]
 pub(crate) struct Pause {
-    /// The steps that they have waited through and that the sums of their places don't count yet.
+    /// The steps that they have waited through and that the sums of their states don't count yet.
     pub(crate) owed: u64,
     /// Before this step nothing moves among them, as long as their halo holds what it held when that was found and no gate
     /// demands anything.
     pub(crate) until: u64,
-    /// A place out of which something moved, or may have.
+    /// The place of a cell out of which something moved, or may have.
     pub(crate) mover: usize,
 }
 
@@ -31,24 +31,24 @@ impl Pause {
         mover: 0,
     };
 
-    /// The pause of cells with these places and connectors as they are now, and with these speeds, which stay before a step. It
-    /// is looked for from a place on.
+    /// The pause of cells with these states and connectors as they are now, and with these speeds, which stay before a step. It
+    /// is looked for from the place `mover` on.
     pub(crate) fn of(
         mover: usize,
-        places: &[Place],
+        states: &[CellState],
         speeds: &[SpeedFactor],
         speeds_until: u64,
         links: &[FollowedLink],
         connectors: &[FollowedConnector],
         put: &[Option<u64>],
     ) -> Pause
-        requires sound { AreSound places.now }
-        requires there { All (λ link. link.place < length places.now) links.now }
-        requires cells { All (λ connector. (m : ℕ) → m < 3 → IsWithin (length places.now) put.now (ref_at connector.cells m)) connectors.now }
+        requires sound { AreSound states.now }
+        requires there { All (λ link. link.place < length states.now) links.now }
+        requires cells { All (λ connector. (m : ℕ) → m < 3 → IsWithin (length states.now) put.now (ref_at connector.cells m)) connectors.now }
         ensures none_owed { result.owed ≡ 0 }
-        ensures idle { (s : ℕ) → s < result.until → AreIdle places.now speeds.now speeds_until links.now connectors.now put.now result.until }
+        ensures idle { (s : ℕ) → s < result.until → AreIdle states.now speeds.now speeds_until links.now connectors.now put.now result.until }
     {
-        match moving(places, speeds, mover) {
+        match moving(states, speeds, mover) {
             Some(mover) => Pause {
                 owed: 0,
                 until: 0,
@@ -56,23 +56,23 @@ impl Pause {
             },
             None => Pause {
                 owed: 0,
-                until: links_until(links, places)
+                until: links_until(links, states)
                     .min(speeds_until)
-                    .min(connectors_until(connectors, places, put)),
+                    .min(connectors_until(connectors, states, put)),
                 mover,
             },
         }
     }
 }
 
-// The first change of a link whose place holds something.
-fn links_until(links: &[FollowedLink], places: &[Place]) -> u64
-    requires { All (λ link. link.place < length places.now) links.now }
-    ensures { All (λ link. (place_at places.now link.place).n ≡ 0 ⊎ result ≤ link.until) links.now }
+// The first change of a link out of a cell that holds something.
+fn links_until(links: &[FollowedLink], states: &[CellState]) -> u64
+    requires { All (λ link. link.place < length states.now) links.now }
+    ensures { All (λ link. (cell_state_at states.now link.place).n ≡ 0 ⊎ result ≤ link.until) links.now }
 {
     let mut until = u64::MAX;
     for link in links {
-        if places[link.place as usize].n != 0 {
+        if states[link.place as usize].n != 0 {
             until = until.min(link.until);
         }
     }
@@ -80,16 +80,20 @@ fn links_until(links: &[FollowedLink], places: &[Place]) -> u64
 }
 
 // A step before which none of these connectors carries anything as long as their cells hold what they do; 0 where one does.
-fn connectors_until(connectors: &[FollowedConnector], places: &[Place], put: &[Option<u64>]) -> u64
-    requires { All (λ connector. (m : ℕ) → m < 3 → IsWithin (length places.now) put.now (ref_at connector.cells m)) connectors.now }
-    ensures { All (IsIdleUntil places.now put.now result) connectors.now }
+fn connectors_until(
+    connectors: &[FollowedConnector],
+    states: &[CellState],
+    put: &[Option<u64>],
+) -> u64
+    requires { All (λ connector. (m : ℕ) → m < 3 → IsWithin (length states.now) put.now (ref_at connector.cells m)) connectors.now }
+    ensures { All (IsIdleUntil states.now put.now result) connectors.now }
 {
     let mut until = u64::MAX;
     for connector in connectors {
         until = until.min(
             connector
                 .timeline
-                .idle_until(held_by(connector, places, put)),
+                .idle_until(held_by(connector, states, put)),
         );
         if until == 0 {
             return 0;
@@ -99,15 +103,15 @@ fn connectors_until(connectors: &[FollowedConnector], places: &[Place], put: &[O
 }
 
 // What its cells hold.
-fn held_by(connector: &FollowedConnector, places: &[Place], put: &[Option<u64>]) -> [u64; 3]
-    requires { (m : ℕ) → m < 3 → IsWithin (length places.now) put.now (ref_at connector.now.cells m) }
-    ensures { result ≡ three_held connector.now (held_in places.now put.now) }
+fn held_by(connector: &FollowedConnector, states: &[CellState], put: &[Option<u64>]) -> [u64; 3]
+    requires { (m : ℕ) → m < 3 → IsWithin (length states.now) put.now (ref_at connector.now.cells m) }
+    ensures { result ≡ three_held connector.now (held_in states.now put.now) }
 {
     let [a, b, c] = connector.cells;
     [
-        a.held_in(places, put),
-        b.held_in(places, put),
-        c.held_in(places, put),
+        a.held_in(states, put),
+        b.held_in(states, put),
+        c.held_in(states, put),
     ]
 }
 

@@ -1,5 +1,5 @@
-ghost use Rattle.std.specs.Prelude.{◌≡◌, ◌+◌, ◌-◌, ◌*◌, ◌/◌, ◌<◌, ◌≤◌, ℕ, All, IfOk, length, true};
-ghost use Rattle.region_body.specs.SpeedZones.{AreZones, is_slow_four, is_whole_four};
+ghost use Rattle.std.specs.Prelude.{◌≡◌, ◌+◌, ◌-◌, ◌*◌, ◌/◌, ◌<◌, ◌≤◌, ◌↔◌, ℕ, All, IfOk, IsTrue, length};
+ghost use Rattle.region_body.specs.SpeedZones.{AreZones, is_all_slow_four, is_slow_four};
 ghost use Rattle.region_body.specs.Speeds.{is_slow};
 
 use crate::slow_cell::is_slow;
@@ -7,7 +7,7 @@ use network_file::Net;
 use no_memory::NoMemory;
 use std::alloc::Global;
 
-/// Fours of places side by side, each with a cell that has speed records: from one up to another. The `m`-th four begins at
+/// Fours of cells side by side, each with a cell that has speed records: from one up to another. The `m`-th four begins at
 /// place `4 * m`.
 #[derive(Clone, Copy)]
 pub(crate) struct SpeedZone {
@@ -15,8 +15,8 @@ pub(crate) struct SpeedZone {
     pub(crate) from: usize,
     /// The one behind the last.
     pub(crate) to: usize,
-    /// Whether all their cells have some.
-    pub(crate) whole: bool,
+    /// Whether each cell of the zone has speed records.
+    pub(crate) all_slow: bool,
 }
 
 /// The zones of these cells, as they are placed, in the whole fours before the last cell, out of which no link to a next one
@@ -30,35 +30,38 @@ pub(crate) fn zones_of(alloc: Global, net: &Net, cells: &[u32]) -> Result<Vec<Sp
     // The fours from here on are alike so far.
     let mut from = 0;
     let mut slow = false;
-    let mut whole = false;
+    let mut all_slow = false;
     for m in 0..fours {
         let some = is_slow_four(net, cells, m);
-        let all = is_whole_four(net, cells, m);
-        if !alike(some, all, slow, whole) {
+        let all = is_all_slow_four(net, cells, m);
+        if !alike(some, all, slow, all_slow) {
             if slow {
-                zones.push(SpeedZone { from, to: m, whole })?;
+                zones.push(SpeedZone {
+                    from,
+                    to: m,
+                    all_slow,
+                })?;
             }
             from = m;
             slow = some;
-            whole = all;
+            all_slow = all;
         }
     }
     if slow {
         zones.push(SpeedZone {
             from,
             to: fours,
-            whole,
+            all_slow,
         })?;
     }
     Ok(zones)
 }
 
-// Whether two fours are alike.
-fn alike(some: bool, all: bool, slow: bool, whole: bool) -> bool
-    ensures some { result ≡ true → some ≡ slow }
-    ensures all { result ≡ true → all ≡ whole }
+// Whether a four is like those before: both have a slow cell or neither does, and all cells of both are slow or not.
+fn alike(some: bool, all: bool, slow: bool, all_slow: bool) -> bool
+    ensures { IsTrue result ↔ (some ≡ slow) × (all ≡ all_slow) }
 {
-    some == slow && all == whole
+    some == slow && all == all_slow
 }
 
 // Whether a cell of the `m`-th four has speed records and is no exit.
@@ -74,11 +77,11 @@ fn is_slow_four(net: &Net, cells: &[u32], m: usize) -> bool
         || is_slow(net, cells, p + 3)
 }
 
-// Whether all of them do.
-fn is_whole_four(net: &Net, cells: &[u32], m: usize) -> bool
+// Whether each cell of the `m`-th four has speed records and is no exit.
+fn is_all_slow_four(net: &Net, cells: &[u32], m: usize) -> bool
     requires within { 4 * m + 4 ≤ length cells.now }
     requires there { All (λ i. i < length net.now.cells) cells.now }
-    ensures { result ≡ is_whole_four (is_slow net.now cells.now) m }
+    ensures { result ≡ is_all_slow_four (is_slow net.now cells.now) m }
 {
     let p = 4 * m;
     is_slow(net, cells, p)

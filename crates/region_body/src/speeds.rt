@@ -11,12 +11,12 @@ use no_memory::NoMemory;
 use std::alloc::Global;
 use timelines::speed_of;
 
-/// The speeds of a region's places.
+/// The speeds in a region's cells.
 #[derive(Drop)]
 pub(crate) struct Speeds {
     /// The speed at each place, 1/1 until it is followed; none where no cell has speed records.
     pub(crate) now: Vec<SpeedFactor>,
-    /// Where places lie whose cells have some, in the whole fours before the last place.
+    /// Where cells lie that have some, in the whole fours before the last cell.
     pub(crate) zones: Vec<SpeedZone>,
     /// The speeds in these cells as they change.
     pub(crate) timelines: Vec<FollowedSpeed>,

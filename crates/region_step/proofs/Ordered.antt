@@ -11,7 +11,7 @@ use Rattle.flow_model.specs.declared.row.Row.{Row}
 use Rattle.chain_order.specs.Order.{IsOrder, OrderLists}
 use Rattle.region_body.specs.Chains.{AreDistinct}
 use Rattle.region_body.specs.Joining.{IsKnown}
-use Rattle.region_body.specs.Places.{place_at}
+use Rattle.region_body.specs.CellStates.{cell_state_at}
 use Rattle.region_body.specs.Placed.{AreCells, ArePlaced, CanAdvance, PlacedCells}
 use Rattle.region_body.specs.Rows.{rows_of}
 use Rattle.region_body.proofs.Whole.{length-rows_after, row_at-rows_after, row_at-rows_of}
@@ -86,15 +86,15 @@ in_order d f xs cells order is same =
     get_or-map f order.placed p 0 d (omega (arith, is.there m within, is.long)) ∙ ap f (is.at_place m within) ∙ sym (get_or-map f cells m 0 d within))
 
 pub length-rows_in : (cells : OrderedCells) → length (rows_in cells) ≡ length cells.order.places
-length-rows_in cells = length-map cells.order.places (row_at (rows_of cells.placed.constants cells.placed.places))
+length-rows_in cells = length-map cells.order.places (row_at (rows_of cells.placed.constants cells.placed.states))
 
 -- the row of a cell is that of its place
 pub row_at-rows_in : (cells : List ℕ) (ordered : OrderedCells) (m : ℕ) → m < length ordered.order.places →
-    row_at (rows_in ordered) m ≡ row_at (rows_of ordered.placed.constants ordered.placed.places) (slice_index ordered.order.places m)
+    row_at (rows_in ordered) m ≡ row_at (rows_of ordered.placed.constants ordered.placed.states) (slice_index ordered.order.places m)
 row_at-rows_in cells ordered m within =
-    get_or-map (row_at (rows_of ordered.placed.constants ordered.placed.places)) ordered.order.places m 0 empty_row within
+    get_or-map (row_at (rows_of ordered.placed.constants ordered.placed.states)) ordered.order.places m 0 empty_row within
 
--- what a step of the places stands on
+-- what a step of the states stands on
 pub can_advance-placed : (net : Network) (cells : List ℕ) (t : ℕ) (ordered : OrderedCells) (put : List (Option ℕ)) → CanStep net cells t ordered put →
     CanAdvance net ordered.order.placed t ordered.placed put
 can_advance-placed net cells t ordered put can =
@@ -108,8 +108,8 @@ can_advance-placed net cells t ordered put can =
       bounds = record {
         own = λ p within.
             let from = from_place is p within in
-            let row = row_at-rows_in cells ordered from.0 (omega (arith, from.1, is.place_each)) ∙ ap (row_at (rows_of placed.constants placed.places)) from.2 in
-            subst (λ i. IsRowInBounds net t i (row_at (rows_of placed.constants placed.places) p)) (sym from.3)
+            let row = row_at-rows_in cells ordered from.0 (omega (arith, from.1, is.place_each)) ∙ ap (row_at (rows_of placed.constants placed.states)) from.2 in
+            subst (λ i. IsRowInBounds net t i (row_at (rows_of placed.constants placed.states) p)) (sym from.3)
             (subst (IsRowInBounds net t (slice_index cells from.0)) row (can.bounds from.0 from.1));
         put_each = can.put_each;
         around = can.put_bounds;
@@ -117,22 +117,22 @@ can_advance-placed net cells t ordered put can =
       seen = record {
         own = λ p within.
             let from = from_place is p within in
-            let row = row_at-rows_in cells ordered from.0 (omega (arith, from.1, is.place_each)) ∙ ap (row_at (rows_of placed.constants placed.places)) from.2 in
+            let row = row_at-rows_in cells ordered from.0 (omega (arith, from.1, is.place_each)) ∙ ap (row_at (rows_of placed.constants placed.states)) from.2 in
             ap can.n from.3 ∙ can.seen from.0 from.1 ∙ ap (λ row. row.n) row ∙
-            ap (λ row. row.n) (row_at-rows_of placed.constants placed.places p (omega (arith, within, can.laid.placed.constants_each)));
+            ap (λ row. row.n) (row_at-rows_of placed.constants placed.states p (omega (arith, within, can.laid.placed.constants_each)));
         around = can.put_seen;
       };
     }
 
 -- the rows after it, and what was held before it
 pub rows-stepped : (net : Network) (cells : List ℕ) (t : ℕ) (n : ℕ → ℕ) (old new : OrderedCells) → IsOrder cells old.order → new.order ≡ old.order →
-    rows_of new.placed.constants new.placed.places ≡ rows_after net t n old.order.placed (rows_of old.placed.constants old.placed.places) →
+    rows_of new.placed.constants new.placed.states ≡ rows_after net t n old.order.placed (rows_of old.placed.constants old.placed.states) →
     rows_in new ≡ rows_after net t n cells (rows_in old)
 rows-stepped net cells t n old new is order rows =
-    let R : List Row = rows_of old.placed.constants old.placed.places in
+    let R : List Row = rows_of old.placed.constants old.placed.states in
     let after : List Row = rows_after net t n old.order.placed R in
     let long : length (map (row_at after) old.order.places) ≡ length cells = length-map old.order.places (row_at after) ∙ is.place_each in
-    ap (λ places. map (row_at (rows_of new.placed.constants new.placed.places)) places) (ap (λ order. order.places) order) ∙
+    ap (λ places. map (row_at (rows_of new.placed.constants new.placed.states)) places) (ap (λ order. order.places) order) ∙
     ap (λ list. map (row_at list) old.order.places) rows ∙
     ext_get_or empty_row (map (row_at after) old.order.places) (rows_after net t n cells (rows_in old)) (long ∙ sym (length-rows_after net t n cells (rows_in old)))
     (λ m lt.
@@ -145,11 +145,11 @@ rows-stepped net cells t n old new is order rows =
     sym (row_at-rows_after net t n cells (rows_in old) m within))
 
 pub before-stepped : (net : Network) (cells halo connectors : List ℕ) (t : ℕ) (old new : OrderedCells) → AreOrdered net cells halo connectors t old → new.order ≡ old.order →
-    ((p : ℕ) → p < length old.order.placed → slice_index new.placed.before p ≡ (place_at old.placed.places p).n) →
+    ((p : ℕ) → p < length old.order.placed → slice_index new.placed.before p ≡ (cell_state_at old.placed.states p).n) →
     before_in new ≡ map (λ row. row.n) (rows_in old)
 before-stepped net cells halo connectors t old new has order before =
     let is = has.order in
-    let R : List Row = rows_of old.placed.constants old.placed.places in
+    let R : List Row = rows_of old.placed.constants old.placed.states in
     let long : length (map (slice_index new.placed.before) old.order.places) ≡ length cells = length-map old.order.places (slice_index new.placed.before) ∙ is.place_each in
     let rows : length (map (λ row. row.n) (rows_in old)) ≡ length cells =
     length-map (rows_in old) (λ row. row.n) ∙ length-map old.order.places (row_at R) ∙ is.place_each in
@@ -162,19 +162,19 @@ before-stepped net cells halo connectors t old new has order before =
     get_or-map (slice_index new.placed.before) old.order.places m 0 0 (omega (arith, within, is.place_each)) ∙ before p there ∙
     sym (get_or-map (λ row. row.n) (rows_in old) m empty_row 0 (omega (arith, within, length-map old.order.places (row_at R), is.place_each)) ∙
     ap (λ row. row.n) (row_at-rows_in cells old m (omega (arith, within, is.place_each))) ∙
-    ap (λ row. row.n) (row_at-rows_of old.placed.constants old.placed.places p (omega (arith, there, has.placed.constants_each)))))
+    ap (λ row. row.n) (row_at-rows_of old.placed.constants old.placed.states p (omega (arith, there, has.placed.constants_each)))))
 
--- the step of the places says so, of cells that were read from these
+-- the step of the states says so, of cells that were read from these
 
 abbrev SaysRows : (net : Network) (t : ℕ) (placed : List ℕ) (old : PlacedCells) (put : List (Option ℕ)) (new : PlacedCells) → Type 0
 SaysRows net t placed old put new =
-    (can : CanAdvance net placed t old put) → rows_of new.constants new.places ≡ rows_after net t can.n placed (rows_of old.constants old.places)
+    (can : CanAdvance net placed t old put) → rows_of new.constants new.states ≡ rows_after net t can.n placed (rows_of old.constants old.states)
 
 abbrev SaysPlaced : (net : Network) (t : ℕ) (placed : List ℕ) (old : PlacedCells) (put : List (Option ℕ)) (new : PlacedCells) → Type 0
 SaysPlaced net t placed old put new = (can : CanAdvance net placed t old put) → ArePlaced net placed can.halo can.connectors (t + 1) new
 
 abbrev SaysBefore : (placed : List ℕ) (old new : PlacedCells) → Type 0
-SaysBefore placed old new = (p : ℕ) → p < length placed → slice_index new.before p ≡ (place_at old.places p).n
+SaysBefore placed old new = (p : ℕ) → p < length placed → slice_index new.before p ≡ (cell_state_at old.states p).n
 
 pub rows-read : (net : Network) (cells : List ℕ) (t : ℕ) (old read : OrderedCells) (put : List (Option ℕ)) (placed : List ℕ) (new : PlacedCells) → read ≡ old →
     placed ≡ read.order.placed → SaysRows net t placed read.placed put new → (can : CanStep net cells t old put) →

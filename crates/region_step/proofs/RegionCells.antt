@@ -1,4 +1,4 @@
--- What the places of a region's cells stand on.
+-- What a region's cells stand on as they are placed.
 use Rattle.std.specs.Prelude.{All, slice_index}
 use Rattle.std.proofs.Common.{◌≡◌, ℕ, ◌<◌, List, get_or, subst}
 use Rattle.std.proofs.lemmas.List.Elements.{Contains-get_or}

@@ -9,11 +9,11 @@ use Rattle.flow_model.specs.State.{occupancy, row_at}
 use Rattle.region_cut.specs.Chart.{ChartLists, chart_of, list_at}
 use Rattle.region_cut.specs.Cuttings.{region_count}
 use Rattle.region_step.specs.Advance.{HasHaloPut, HasRowsInBounds}
-use Rattle.region_step.specs.Grid.{grid_before, grid_held, grid_row}
+use Rattle.region_step.specs.Grid.{grid_held, grid_row}
 use Rattle.region_step.specs.Laws.{grid_rows, grid_state, with_halo}
 use Rattle.region_step.specs.Opened.{halo_cells}
 use Rattle.region_step.specs.Start.{Fits, StartLists, start_of, zero_start}
-use Rattle.region_step.proofs.Grids.{grid_before-next, grid_held-started, held_in_bounds, stay_in_bounds}
+use Rattle.region_step.proofs.Grids.{grid_held-started, held_in_bounds, stay_in_bounds}
 use Rattle.region_step.proofs.Ground.{ground}
 use Rattle.region_step.proofs.StartLaws.{zeros}
 
@@ -62,12 +62,6 @@ occupancy-grid net chart start every r t p sound is within started inside =
     let own = here.own i (Contains-get_or cells p 0 inside) in
     ap (λ row. row.n) (get_or-map (grid_row net chart.cut start t) cells p 0 empty_row inside) ∙
     sym (grid_held-started net chart.cut start t i (omega (arith, started, ap (slice_index start.steps) own.1)))
-
-pub before-grid : (net : Network) (chart : ChartLists) (start : StartLists) (every r t p : ℕ) → p < length (list_at chart.cells r) →
-    slice_index (grid_state net chart start every r (t + 1)).before p ≡ grid_held net chart.cut start t (slice_index (list_at chart.cells r) p)
-unfolding grid_state
-before-grid net chart start every r t p inside =
-    get_or-map (grid_before net chart.cut start (t + 1)) (list_at chart.cells r) p 0 0 inside ∙ grid_before-next net chart.cut start t (slice_index (list_at chart.cells r) p)
 
 pub row-grid : (net : Network) (chart : ChartLists) (start : StartLists) (every r t p : ℕ) → p < length (list_at chart.cells r) →
     row_at (grid_state net chart start every r t).rows p ≡ grid_row net chart.cut start t (slice_index (list_at chart.cells r) p)

@@ -26,7 +26,7 @@ pub record IsIn (net : Network) (chart : ChartLists) (region : RegionValue) : Ty
   pub charted : chart ≡ chart_of net chart.cut
   pub one_of : IsOf chart region
   pub in_time : region.state.step ≤ net.steps
-  -- its cells stand as places at its step, and these have its rows
+  -- its cells are placed in their order at its step, and their states have its rows
   pub ordered : AreOrdered net (list_at chart.cells region.state.number) (halo_cells chart region.state.number)
       (list_at chart.connectors region.state.number) region.state.step region.body.ordered
   pub row_each : region.state.rows ≡ rows_in region.body.ordered

@@ -1,4 +1,4 @@
--- The rows of cells whose places stand in another order than the cells.
+-- The rows of cells that are placed in another order than their own.
 use Rattle.std.specs.Prelude.{◌≡◌, ℕ, ◌<◌, List, Option, None, length, map, slice_index, slice_index_or, unwrap_or}
 use Rattle.network_file.specs.Network.{Network}
 use Rattle.flow_model.specs.Bounds.{IsHeldInBounds, IsRowInBounds}
@@ -21,7 +21,7 @@ HavePlaces cells = (m : ℕ) → m < length cells.order.places →
 
 -- a row for each cell, in the order of the cells
 abbrev pub rows_in : OrderedCells → List Row
-rows_in cells = map (row_at (rows_of cells.placed.constants cells.placed.places)) cells.order.places
+rows_in cells = map (row_at (rows_of cells.placed.constants cells.placed.states)) cells.order.places
 
 -- and what each held a step before
 abbrev pub before_in : OrderedCells → List ℕ

@@ -23,7 +23,7 @@ pub record RegionState : Type 0 where
 
 -- what a region keeps beside its state
 pub record Body : Type 0 where
-  -- its cells as places
+  -- its cells as they are placed
   pub ordered : OrderedCells
   -- the place of each border cell among its cells
   pub border : List ℕ

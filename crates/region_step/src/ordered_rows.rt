@@ -8,7 +8,7 @@ use network_file::Net;
 use region_body::PlacedRows;
 use std::marker::Model;
 
-/// The rows of some cells at a step, in the order of the cells. Their places stand in another order, in which the cells of a
+/// The rows of some cells at a step, in the order of the cells. They are placed in another order, in which the cells of a
 /// chain of links lie side by side.
 #[derive(Debug, Drop)]
 pub(crate) struct OrderedRows {

@@ -1,24 +1,21 @@
 use Rattle.std.specs.Prelude.{sum_by}
-use Rattle.std.proofs.Common.{◌≡◌, ℕ, length, subst, ap, ◌∙◌, arith}
+use Rattle.std.proofs.Common.{◌≡◌, ℕ, length, ap, ◌∙◌, arith}
 use Rattle.std.proofs.lemmas.List.{take_all}
-use Rattle.region_body.specs.Places.{place_at}
-use Rattle.region_body.specs.Carrying.{CanCarry, brought, passed, taken}
-use Rattle.region_body.specs.CellRefs.{IsWithin, held_before, ref_at}
+use Rattle.region_body.specs.CellStates.{cell_state_at}
+use Rattle.region_body.specs.Carrying.{brought, passed, taken}
+use Rattle.region_body.specs.CellRefs.{held_before}
 use Rattle.region_body.specs.declared.followed_connector.FollowedConnector.{FollowedConnector}
-use Rattle.region_body.proofs.MovedPlaces.{can-pass-more, passed-more, passed-none}
+use Rattle.region_body.proofs.MovedStates.{can-pass-more, passed-more, passed-none}
 use Rattle.region_body.proofs.carry.carry_all.Goals as goal
 
 pub loop-connector-init : goal.loop-connector-init
-loop-connector-init c = λ p within. passed-none (place_at c.args.places.now p)
+loop-connector-init c = λ p within. passed-none (cell_state_at c.args.states.now p)
 
 pub carry-requires-clause-connector : goal.carry-requires-clause-connector
 carry-requires-clause-connector c =
-    let put = c.args.put.now in
     let connector : FollowedConnector = c.connector-item.result in
-    let first = c.args.places.now in
-    let long : length first ≡ length c.loop-connector.places = omega arith in
-    let is : CanCarry c.args.t connector first put = rw (← c.connector-item.is) at (c.requires.each c.loop-connector.connector-index connector (omega arith)) in
-    record { refs = λ m few. subst (λ k. IsWithin k put (ref_at connector.cells m)) long (is.refs m few); step = is.step; until = is.until }
+    let long : length c.args.states.now ≡ length c.loop-connector.states = omega arith in
+    rw (← c.connector-item.is, long) at (c.requires.each c.loop-connector.connector-index connector (omega arith))
 
 pub carry-requires-clause-can : goal.carry-requires-clause-can
 carry-requires-clause-can c = λ p within.
@@ -26,7 +23,7 @@ carry-requires-clause-can c = λ p within.
     let t : ℕ = c.args.t in
     let connectors = c.args.connectors.now in
     let connector : FollowedConnector = c.connector-item.result in
-    let can = can-pass-more (brought t held p) (taken t held p) connectors c.loop-connector.connector-index connector (place_at c.args.places.now p) (place_at c.loop-connector.places p)
+    let can = can-pass-more (brought t held p) (taken t held p) connectors c.loop-connector.connector-index connector (cell_state_at c.args.states.now p) (cell_state_at c.loop-connector.states p)
     (omega arith) (c.loop-connector.invariant p (omega arith)) (c.requires.can p (omega arith)) in
     rw (← c.connector-item.is) at can
 
@@ -36,9 +33,9 @@ loop-connector-preserved c = λ p within.
     let t : ℕ = c.args.t in
     let connector : FollowedConnector = c.connector-item.result in
     let here = c.carry.ensures p (omega arith) in
-    passed-more (brought t held p) (taken t held p) c.args.connectors.now c.loop-connector.connector-index connector (place_at c.args.places.now p) (place_at c.loop-connector.places p)
-    (place_at c.carry.new.places p) (omega arith) (c.loop-connector.invariant p (omega arith))
-    (here ∙ ap (λ one. passed (place_at c.loop-connector.places p) (brought t held p one) (taken t held p one)) c.connector-item.is) (c.requires.can p (omega arith)).held
+    passed-more (brought t held p) (taken t held p) c.args.connectors.now c.loop-connector.connector-index connector (cell_state_at c.args.states.now p) (cell_state_at c.loop-connector.states p)
+    (cell_state_at c.carry.new.states p) (omega arith) (c.loop-connector.invariant p (omega arith))
+    (here ∙ ap (λ one. passed (cell_state_at c.loop-connector.states p) (brought t held p one) (taken t held p one)) c.connector-item.is) (c.requires.can p (omega arith)).held
 
 pub returns : goal.returns
 returns c = λ p within.
@@ -46,4 +43,4 @@ returns c = λ p within.
     let t : ℕ = c.args.t in
     let all = take_all c.loop-connector.connector-index c.args.connectors.now (omega arith) in
     c.loop-connector.invariant p (omega arith)
-    ∙ ap (λ connectors. passed (place_at c.args.places.now p) (sum_by (brought t held p) connectors) (sum_by (taken t held p) connectors)) all
+    ∙ ap (λ connectors. passed (cell_state_at c.args.states.now p) (sum_by (brought t held p) connectors) (sum_by (taken t held p) connectors)) all

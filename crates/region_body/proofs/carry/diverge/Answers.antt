@@ -1,40 +1,43 @@
 use Rattle.std.proofs.Common.{◌≡◌, ◌+◌, ℕ, ap, ◌∙◌, arith}
-use Rattle.region_body.specs.Places.{place_at, with_entered, with_left}
+use Rattle.region_body.specs.CellStates.{cell_state_at, with_entered, with_left}
 use Rattle.region_body.specs.Carrying.{brought, taken}
 use Rattle.region_body.specs.CellRefs.{held_before, parts_at, ref_at}
-use Rattle.region_body.proofs.MovedPlaces.{can-bring, can-take, entered-twice}
+use Rattle.region_body.proofs.MovedStates.{can-bring, can-take, entered-twice}
 use Rattle.region_body.proofs.Ruled.{diverge-moves}
-use Rattle.region_body.proofs.carry.diverge.Goals.{After-flow-flow}
+use Rattle.region_body.proofs.carry.diverge.Goals.{After-carried-flow}
 use Rattle.region_body.proofs.carry.diverge.Goals as goal
 
-moves : (c : After-flow-flow) (p : ℕ) →
-    (taken c.args.t (held_before c.args.before.now c.args.put.now) p c.args.connector.now ≡ parts_at (ref_at c.args.connector.now.cells 0) c.flow-flow.result.out1 p) ×
+moves : (c : After-carried-flow) (p : ℕ) →
+    (taken c.args.t (held_before c.args.before.now c.args.put.now) p c.args.connector.now ≡ parts_at (ref_at c.args.connector.now.cells 0) c.carried-flow.result.out1 p) ×
     (brought c.args.t (held_before c.args.before.now c.args.put.now) p c.args.connector.now ≡
-    parts_at (ref_at c.args.connector.now.cells 1) c.flow-flow.result.in1 p + parts_at (ref_at c.args.connector.now.cells 2) c.flow-flow.result.in2 p)
+    parts_at (ref_at c.args.connector.now.cells 1) c.carried-flow.result.in1 p + parts_at (ref_at c.args.connector.now.cells 2) c.carried-flow.result.in2 p)
 moves c p =
-    diverge-moves c.args.t (held_before c.args.before.now c.args.put.now) p c.args.connector.now c.flow-flow.result c.requires.rule
-    (rw (c.held_before.ensures, c.held_before-2.ensures, c.held_before-3.ensures) at (c.flow-flow.ensures.later c.args.t c.requires.connector.step c.requires.connector.until))
+    diverge-moves c.args.t (held_before c.args.before.now c.args.put.now) p c.args.connector.now c.carried-flow.result c.requires.rule
+    c.carried-flow.ensures
+
+pub carried-flow-requires : goal.carried-flow-requires
+carried-flow-requires c = rw (← c.requires.one_each) at c.requires.connector
 
 pub take-requires-clause-can : goal.take-requires-clause-can
 take-requires-clause-can c = λ p within.
-    let is = moves (goal.at.take-requires-clause-can c).After-flow-flow p in
+    let is = moves (goal.at.take-requires-clause-can c).After-carried-flow p in
     let out = is.0 in
-    can-take (place_at c.args.places.now p) (parts_at (ref_at c.args.connector.now.cells 0) c.flow-flow.result.out1 p) _ _ (c.requires.can p within) (omega (arith, out))
+    can-take (cell_state_at c.args.states.now p) (parts_at (ref_at c.args.connector.now.cells 0) c.carried-flow.result.out1 p) _ _ (c.requires.can p within) (omega (arith, out))
 
 pub bring-requires-clause-can : goal.bring-requires-clause-can
 bring-requires-clause-can c = λ p within.
-    let is = moves (goal.at.bring-requires-clause-can c).After-flow-flow p in
+    let is = moves (goal.at.bring-requires-clause-can c).After-carried-flow p in
     let out = is.0 in
     let into = is.1 in
     let first = c.take.ensures p (omega arith) in
     let n = ap (λ one. one.n) first in
     let gone = ap (λ one. one.gone) first in
-    can-bring (place_at c.args.places.now p) (place_at c.take.new.places p) (parts_at (ref_at c.args.connector.now.cells 1) c.flow-flow.result.in1 p) _ _ (omega (arith, n, into))
+    can-bring (cell_state_at c.args.states.now p) (cell_state_at c.take.new.states p) (parts_at (ref_at c.args.connector.now.cells 1) c.carried-flow.result.in1 p) _ _ (omega (arith, n, into))
     (omega (arith, gone, out)) (c.requires.can p (omega arith))
 
 pub bring-requires-2-clause-can : goal.bring-requires-2-clause-can
 bring-requires-2-clause-can c = λ p within.
-    let is = moves (goal.at.bring-requires-2-clause-can c).After-flow-flow p in
+    let is = moves (goal.at.bring-requires-2-clause-can c).After-carried-flow p in
     let out = is.0 in
     let into = is.1 in
     let first = c.take.ensures p (omega arith) in
@@ -43,16 +46,16 @@ bring-requires-2-clause-can c = λ p within.
     let gone = ap (λ one. one.gone) first in
     let n_second = ap (λ one. one.n) second in
     let gone_second = ap (λ one. one.gone) second in
-    can-bring (place_at c.args.places.now p) (place_at c.bring.new.places p) (parts_at (ref_at c.args.connector.now.cells 2) c.flow-flow.result.in2 p) _ _
+    can-bring (cell_state_at c.args.states.now p) (cell_state_at c.bring.new.states p) (parts_at (ref_at c.args.connector.now.cells 2) c.carried-flow.result.in2 p) _ _
     (omega (arith, n, n_second, into)) (omega (arith, gone, gone_second, out)) (c.requires.can p (omega arith))
 
 pub returns : goal.returns
 returns c = λ p within.
-    let is = moves (goal.at.returns c).After-flow-flow p in
-    let x : ℕ = parts_at (ref_at c.args.connector.now.cells 0) c.flow-flow.result.out1 p in
-    let y : ℕ = parts_at (ref_at c.args.connector.now.cells 1) c.flow-flow.result.in1 p in
-    let z : ℕ = parts_at (ref_at c.args.connector.now.cells 2) c.flow-flow.result.in2 p in
+    let is = moves (goal.at.returns c).After-carried-flow p in
+    let x : ℕ = parts_at (ref_at c.args.connector.now.cells 0) c.carried-flow.result.out1 p in
+    let y : ℕ = parts_at (ref_at c.args.connector.now.cells 1) c.carried-flow.result.in1 p in
+    let z : ℕ = parts_at (ref_at c.args.connector.now.cells 2) c.carried-flow.result.in2 p in
     rw (is.0, is.1) (
     c.bring-2.ensures p (omega arith) ∙ ap (λ one. with_entered one z) (c.bring.ensures p (omega arith) ∙ ap (λ one. with_entered one y) (c.take.ensures p (omega arith)))
-    ∙ entered-twice (with_left (place_at c.args.places.now p) x) y z
+    ∙ entered-twice (with_left (cell_state_at c.args.states.now p) x) y z
     )

@@ -6,6 +6,6 @@ use Rattle.std.specs.Prelude.{All}
 
 abbrev pub invariant-loop-m : goal.invariant-loop-m
 invariant-loop-m l = record {
-  there : All (IsLinkThere (length l.places) l.t) l.links;
-  refreshed : (most : ℕ → ℕ → ℕ) → AreFollowed most l.initial.places l.initial.links l.t → IsRefreshed most l.initial.places l.places l.links l.t l.m;
+  there : All (IsLinkThere (length l.states) l.t) l.links;
+  refreshed : (most : ℕ → ℕ → ℕ) → AreFollowed most l.initial.states l.initial.links l.t → IsRefreshed most l.initial.states l.states l.links l.t l.m;
 }

@@ -25,7 +25,7 @@ returns-then-is_constant-clause-followed c = λ most later followed extends.
     let timeline : LinkValues = c.move_to-now.new.self in
     let is : (s : ℕ) → most_at c.in_ok-timeline.timeline s ≡ most_between plan (slice_index cells p) (slice_index cells (p + 1)) s =
     λ s. c.in_ok-timeline.ensures.timeline s ∙ ap (λ net. most_between net.plan (slice_index cells p) (slice_index cells (p + 1)) s) c.net.view_is in
-    joined-constant plan cells most later c.args.places.now c.args.links.now.items t p timeline c.move_to-now.result.value c.move_to-now.result.until
+    joined-constant plan cells most later c.args.states.now c.args.links.now.items t p timeline c.move_to-now.result.value c.move_to-now.result.until
     (omega (arith, c.requires.within, c.requires.one_each))
     (joined plan cells p t c.in_ok-timeline.timeline timeline c.move_to-now.result.value c.move_to-now.result.until is c.move_to-now.ensures.value
     c.move_to-now.ensures.steady c.move_to-now.ensures.timeline)
@@ -41,7 +41,7 @@ returns-clause-followed c = λ most later followed extends.
     let is : (s : ℕ) → most_at c.in_ok-timeline.timeline s ≡ most_between plan (slice_index cells p) (slice_index cells (p + 1)) s =
     λ s. c.in_ok-timeline.ensures.timeline s ∙ ap (λ net. most_between net.plan (slice_index cells p) (slice_index cells (p + 1)) s) c.net.view_is in
     let link : FollowedLink = record { place = p; until = c.move_to-now.result.until; timeline = timeline } in
-    let follows = joined-followed plan cells most later c.args.places.now c.args.links.now.items t p link c.move_to-now.result.value
+    let follows = joined-followed plan cells most later c.args.states.now c.args.links.now.items t p link c.move_to-now.result.value
     (omega (arith, c.requires.within, c.requires.one_each))
     (joined plan cells p t c.in_ok-timeline.timeline timeline c.move_to-now.result.value c.move_to-now.result.until is c.move_to-now.ensures.value
     c.move_to-now.ensures.steady c.move_to-now.ensures.timeline)

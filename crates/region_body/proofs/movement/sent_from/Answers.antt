@@ -9,8 +9,8 @@ pub returns-then-p-speeds : goal.returns-then-p-speeds
 returns-then-p-speeds c =
     let flow = c.arriving.ensures.flow in
     let held = c.arriving.ensures.held in
-    let n = c.args.place.now.n in
-    let most = c.args.place.now.most in
+    let n = c.args.state.now.n in
+    let most = c.args.state.now.most in
     let own : ratio_at c.args.speeds.now c.args.p ≡ c.index-speeds-p.result =
     get_or_default c.args.speeds.now c.args.p (1, 1) c.index-speeds-p.result c.if-p-speeds.true ∙ sym c.index-speeds-p.is in
     let sends : c.min.result ≡ min (min most (arriving c.index-speeds-p.result n)) n =

@@ -1,7 +1,7 @@
 use Rattle.std.specs.Prelude.{All, ◌⊎◌}
 use Rattle.std.proofs.Common.{◌≡◌, ◌≤◌, take}
-use Rattle.region_body.specs.Places.{place_at}
+use Rattle.region_body.specs.CellStates.{cell_state_at}
 use Rattle.region_body.proofs.pause.links_until.Given as goal
 
 abbrev pub invariant-loop-link : goal.invariant-loop-link
-invariant-loop-link l = All (λ link. (place_at l.places link.place).n ≡ 0 ⊎ l.until ≤ link.until) (take l.link-index l.links)
+invariant-loop-link l = All (λ link. (cell_state_at l.states link.place).n ≡ 0 ⊎ l.until ≤ link.until) (take l.link-index l.links)

@@ -1,11 +1,11 @@
 use Rattle.std.proofs.Common.{ℕ, List, ◌*◌}
 use Rattle.region_body.specs.Sweeping.{IsFree, IsSweptTo}
-use Rattle.region_body.specs.declared.place.Place.{Place}
+use Rattle.region_body.specs.declared.cell_state.CellState.{CellState}
 use Rattle.region_body.proofs.sweep_free.sweep_fours.Given as goal
 
 abbrev pub invariant-loop-m : goal.invariant-loop-m
 invariant-loop-m l = record {
-  going : (first : List Place) × (speeds : List (ℕ × ℕ)) × IsSweptTo first speeds (4 * l.m) l.places l.before l.flow × IsFree speeds (4 * l.from) (4 * l.to);
-  swept : (first : List Place) (speeds : List (ℕ × ℕ)) → IsSweptTo first speeds (4 * l.from) l.initial.places l.initial.before l.enters →
-      IsFree speeds (4 * l.from) (4 * l.to) → IsSweptTo first speeds (4 * l.m) l.places l.before l.flow;
+  going : (first : List CellState) × (speeds : List (ℕ × ℕ)) × IsSweptTo first speeds (4 * l.m) l.states l.before l.flow × IsFree speeds (4 * l.from) (4 * l.to);
+  swept : (first : List CellState) (speeds : List (ℕ × ℕ)) → IsSweptTo first speeds (4 * l.from) l.initial.states l.initial.before l.enters →
+      IsFree speeds (4 * l.from) (4 * l.to) → IsSweptTo first speeds (4 * l.m) l.states l.before l.flow;
 }

@@ -5,9 +5,9 @@ use Rattle.region_body.proofs.sweep_free.sweep_free.Goals as goal
 
 pub sweep_fours-flow-requires-clause-swept : goal.sweep_fours-flow-requires-clause-swept
 sweep_fours-flow-requires-clause-swept c =
-    (c.args.places.now, [], swept-none c.args.places.now [] c.args.before.now c.requires.sound (omega (arith, c.requires.there)), free-none 0 (4 * (c.args.last / 4)))
+    (c.args.states.now, [], swept-none c.args.states.now [] c.args.before.now c.requires.sound (omega (arith, c.requires.there)), free-none 0 (4 * (c.args.last / 4)))
 
 pub loop-p-init : goal.loop-p-init
 loop-p-init c =
-    c.sweep_fours-flow.ensures c.args.places.now [] (swept-none c.args.places.now [] c.args.before.now c.requires.sound (omega (arith, c.requires.there)))
+    c.sweep_fours-flow.ensures c.args.states.now [] (swept-none c.args.states.now [] c.args.before.now c.requires.sound (omega (arith, c.requires.there)))
     (free-none 0 (4 * (c.args.last / 4)))

@@ -1,11 +1,11 @@
 use Rattle.std.proofs.Common.{List, ◌*◌}
 use Rattle.region_body.specs.Sweeping.{AreFew, IsSweptTo}
-use Rattle.region_body.specs.declared.place.Place.{Place}
+use Rattle.region_body.specs.declared.cell_state.CellState.{CellState}
 use Rattle.region_body.proofs.sweep_zones.slowed_fours.Given as goal
 
 abbrev pub invariant-loop-m : goal.invariant-loop-m
 invariant-loop-m l = record {
-  going : (first : List Place) × IsSweptTo first l.speeds (4 * l.m) l.places l.before l.flow × AreFew first l.speeds l.whole (4 * l.from) (4 * l.to);
-  swept : (first : List Place) → IsSweptTo first l.speeds (4 * l.from) l.initial.places l.initial.before l.enters →
-      IsSweptTo first l.speeds (4 * l.m) l.places l.before l.flow;
+  going : (first : List CellState) × IsSweptTo first l.speeds (4 * l.m) l.states l.before l.flow × AreFew first l.speeds l.all_slow (4 * l.from) (4 * l.to);
+  swept : (first : List CellState) → IsSweptTo first l.speeds (4 * l.from) l.initial.states l.initial.before l.enters →
+      IsSweptTo first l.speeds (4 * l.m) l.states l.before l.flow;
 }

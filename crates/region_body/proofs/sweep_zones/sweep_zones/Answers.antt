@@ -7,12 +7,12 @@ use Rattle.region_body.proofs.sweep_zones.sweep_zones.Goals as goal
 pub loop-zone-init : goal.loop-zone-init
 loop-zone-init c = record {
   at = refl;
-  swept = swept-none c.args.places.now c.args.speeds.now c.args.before.now c.requires.sound (omega (arith, c.requires.within));
+  swept = swept-none c.args.states.now c.args.speeds.now c.args.before.now c.requires.sound (omega (arith, c.requires.within));
 }
 
 pub sweep_fours-flow-requires-clause-swept : goal.sweep_fours-flow-requires-clause-swept
 sweep_fours-flow-requires-clause-swept c =
-    let first = c.args.places.now in
+    let first = c.args.states.now in
     let speeds = c.args.speeds.now in
     let at = c.loop-zone.invariant.at in (
       first,
@@ -23,7 +23,7 @@ sweep_fours-flow-requires-clause-swept c =
 
 pub sweep_zone-flow-requires-clause-swept : goal.sweep_zone-flow-requires-clause-swept
 sweep_zone-flow-requires-clause-swept c =
-    let first = c.args.places.now in
+    let first = c.args.states.now in
     let speeds = c.args.speeds.now in
     let zones = c.args.zones.now in
     let at = c.loop-zone.invariant.at in (
@@ -35,7 +35,7 @@ sweep_zone-flow-requires-clause-swept c =
 
 pub loop-zone-preserved : goal.loop-zone-preserved
 loop-zone-preserved c =
-    let first = c.args.places.now in
+    let first = c.args.states.now in
     let speeds = c.args.speeds.now in
     let zones = c.args.zones.now in
     let at = c.loop-zone.invariant.at in
@@ -49,7 +49,7 @@ loop-zone-preserved c =
 
 pub sweep_fours-flow-requires-2-clause-swept : goal.sweep_fours-flow-requires-2-clause-swept
 sweep_fours-flow-requires-2-clause-swept c =
-    let first = c.args.places.now in
+    let first = c.args.states.now in
     let speeds = c.args.speeds.now in
     let zones = c.args.zones.now in
     let all : c.loop-zone.zone-index ≡ length zones = omega (arith, c.loop-zone.auto.zone-index-end, c.loop-zone-test.false) in
@@ -62,7 +62,7 @@ sweep_fours-flow-requires-2-clause-swept c =
 
 pub loop-p-init : goal.loop-p-init
 loop-p-init c =
-    let first = c.args.places.now in
+    let first = c.args.states.now in
     let speeds = c.args.speeds.now in
     let zones = c.args.zones.now in
     let all : c.loop-zone.zone-index ≡ length zones = omega (arith, c.loop-zone.auto.zone-index-end, c.loop-zone-test.false) in
@@ -72,7 +72,7 @@ loop-p-init c =
 
 pub slowed_one-flow-requires-clause-swept : goal.slowed_one-flow-requires-clause-swept
 slowed_one-flow-requires-clause-swept c =
-    let first = c.args.places.now in
+    let first = c.args.states.now in
     let p = c.loop-p.p in (
       first,
       c.loop-p.invariant,

@@ -6,8 +6,8 @@ use Rattle.region_body.proofs.sweep_zones.sweep_zones.Given as goal
 abbrev pub invariant-loop-zone : goal.invariant-loop-zone
 invariant-loop-zone l = record {
   at : l.m ≡ end_before l.zones l.zone-index;
-  swept : IsSweptTo l.initial.places l.speeds (4 * l.m) l.places l.before l.flow;
+  swept : IsSweptTo l.initial.states l.speeds (4 * l.m) l.states l.before l.flow;
 }
 
 abbrev pub invariant-loop-p : goal.invariant-loop-p
-invariant-loop-p l = IsSweptTo l.fn.places l.speeds l.p l.places l.before l.flow
+invariant-loop-p l = IsSweptTo l.fn.states l.speeds l.p l.states l.before l.flow

@@ -8,17 +8,17 @@ use Rattle.region_body.proofs.Stays.{waited-none}
 use Rattle.region_body.proofs.placed.PlacedRows.count_owed.Goals.{After-wait_all}
 use Rattle.region_body.proofs.placed.PlacedRows.count_owed.Goals as goal
 
-places-are : (c : After-wait_all) →
-    map (waited 0) (with_items c.self.inside.places c.wait_all.new.places).items ≡ map (waited c.self.inside.pause.owed) c.self.inside.places.items
-places-are c =
-    waited-none (with_items c.self.inside.places c.wait_all.new.places).items
-    ∙ with_items_is c.self.inside.places c.wait_all.new.places (c.wait_all.auto.places ∙ c.deref_mut.ensures.len)
+states-are : (c : After-wait_all) →
+    map (waited 0) (with_items c.self.inside.states c.wait_all.new.states).items ≡ map (waited c.self.inside.pause.owed) c.self.inside.states.items
+states-are c =
+    waited-none (with_items c.self.inside.states c.wait_all.new.states).items
+    ∙ with_items_is c.self.inside.states c.wait_all.new.states (c.wait_all.auto.states ∙ c.deref_mut.ensures.len)
     ∙ c.wait_all.ensures ∙ ap (map (waited c.self.inside.pause.owed)) c.deref_mut.ensures.value
 
 pub invariant_of-self : goal.invariant_of-self
-invariant_of-self c = rw (places-are (goal.at.invariant_of-self c).After-wait_all) c.self.invariant
+invariant_of-self c = rw (states-are (goal.at.invariant_of-self c).After-wait_all) c.self.invariant
 
 pub returns-then-self-gt0 : goal.returns-then-self-gt0
 returns-then-self-gt0 c =
     let none : PlacedCells → PlacedCells = λ rows. record rows { pause = record rows.pause { owed = 0 } } in
-    rw (places-are (goal.at.returns-then-self-gt0 c).After-wait_all) (ap none c.self.view_is)
+    rw (states-are (goal.at.returns-then-self-gt0 c).After-wait_all) (ap none c.self.view_is)

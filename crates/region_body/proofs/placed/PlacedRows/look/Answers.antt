@@ -11,8 +11,8 @@ use Rattle.region_body.proofs.placed.PlacedRows.look.Goals as goal
 none-owed : (c : After-deref-4) → c.self.inside.pause.owed ≡ 0
 none-owed c = ap (λ rows. rows.pause.owed) c.self.view_is ∙ c.requires.none_owed
 
-places-are : (c : After-deref-4) → c.deref.result.now ≡ c.args.self.now.places
-places-are c = c.deref.ensures.value ∙ unowed c.self.inside.pause.owed c.self.inside.places.items c.args.self.now.places (ap (λ rows. rows.places) c.self.view_is) (none-owed c)
+states-are : (c : After-deref-4) → c.deref.result.now ≡ c.args.self.now.states
+states-are c = c.deref.ensures.value ∙ unowed c.self.inside.pause.owed c.self.inside.states.items c.args.self.now.states (ap (λ rows. rows.states) c.self.view_is) (none-owed c)
 
 links-are : (c : After-deref-4) → c.deref-3.result.now ≡ c.args.self.now.links
 links-are c = c.deref-3.ensures.value ∙ ap (λ rows. rows.links) c.self.view_is
@@ -29,14 +29,14 @@ connectors-are c = c.deref-4.ensures.value ∙ ap (λ rows. rows.connectors) c.s
 pub of-self-inside-requires-clause-sound : goal.of-self-inside-requires-clause-sound
 of-self-inside-requires-clause-sound c =
     rw c.deref.ensures.value
-    (sound-settled c.self.inside.constants.items c.self.inside.places.items c.self.inside.before.items
-    (rw (ap (λ k. map (waited k) c.self.inside.places.items) (none-owed c) ∙ waited-none c.self.inside.places.items) at c.self.invariant))
+    (sound-settled c.self.inside.constants.items c.self.inside.states.items c.self.inside.before.items
+    (rw (ap (λ k. map (waited k) c.self.inside.states.items) (none-owed c) ∙ waited-none c.self.inside.states.items) at c.self.invariant))
 
 pub of-self-inside-requires-clause-there : goal.of-self-inside-requires-clause-there
-of-self-inside-requires-clause-there c = rw (places-are c, links-are c) c.requires.there
+of-self-inside-requires-clause-there c = rw (states-are c, links-are c) c.requires.there
 
 pub of-self-inside-requires-clause-cells : goal.of-self-inside-requires-clause-cells
-of-self-inside-requires-clause-cells c = rw (places-are c, connectors-are c) c.requires.cells
+of-self-inside-requires-clause-cells c = rw (states-are c, connectors-are c) c.requires.cells
 
 pub returns-clause-idle : goal.returns-clause-idle
 returns-clause-idle c = λ s before.
@@ -45,6 +45,6 @@ returns-clause-idle c = λ s before.
     let lasts : nat_lt 0 until ≡ true = grind (arith, nat_tests, before) in
     let same : c.note_seen.new.seen ≡ c.args.put.now = c.note_seen.ensures.same lasts in
     let long : length c.note_seen.new.seen ≡ c.self.inside.seen.len = c.note_seen.auto.seen ∙ c.deref_mut.ensures.len in
-    subst (λ seen. AreIdle c.args.self.now.places c.args.self.now.speeds c.args.self.now.speeds_until c.args.self.now.links c.args.self.now.connectors seen until)
+    subst (λ seen. AreIdle c.args.self.now.states c.args.self.now.speeds c.args.self.now.speeds_until c.args.self.now.links c.args.self.now.connectors seen until)
     (sym (with_items_is c.self.inside.seen c.note_seen.new.seen long ∙ same))
-    ((rw (places-are e, speeds-are e, until-is e, links-are e, connectors-are e) at c.of-self-inside.ensures.idle) s before)
+    ((rw (states-are e, speeds-are e, until-is e, links-are e, connectors-are e) at c.of-self-inside.ensures.idle) s before)

@@ -3,7 +3,7 @@ use Rattle.std.proofs.Common.{◌≡◌, ℕ, length, sym, ap, subst, ◌∙◌,
 use Rattle.std.proofs.lemmas.List.{length-map, length-replicate, with_items_is}
 use Rattle.network_file.specs.Network.{IsNetwork}
 use Rattle.flow_model.specs.Limits.{room_at}
-use Rattle.region_body.specs.Places.{place_at}
+use Rattle.region_body.specs.CellStates.{cell_state_at}
 use Rattle.connector_flow.specs.Space.{IsSpaceOf}
 use Rattle.region_body.specs.FollowedLinks.{IsLinkThere}
 use Rattle.region_body.proofs.Firsts.{AreOpened, opened-cell, opened-rows, opened-settled}
@@ -20,23 +20,23 @@ invariant_of-result c =
     let rows = c.args.rows.now in
     let sound : IsNetwork net = subst IsNetwork c.net.view_is c.net.invariant in
     let constants = c.in_ok-constants.constants.items in
-    let first = c.in_ok-places.places.items in
-    let after = c.join_places.new.places in
+    let first = c.in_ok-states.states.items in
+    let after = c.join_cells.new.states in
     let value = c.deref_mut.ensures.value in
-    let after_long : length after ≡ length first = c.join_places.auto.places ∙ ap length value in
-    let after_is = with_items_is c.in_ok-places.places after (c.join_places.auto.places ∙ c.deref_mut.ensures.len) in
-    let only_most : (p : ℕ) → place_at after p ≡ record (place_at first p) { most = (place_at after p).most } =
-    rw value at c.join_places.ensures.only_most in
+    let after_long : length after ≡ length first = c.join_cells.auto.states ∙ ap length value in
+    let after_is = with_items_is c.in_ok-states.states after (c.join_cells.auto.states ∙ c.deref_mut.ensures.len) in
+    let only_most : (p : ℕ) → cell_state_at after p ≡ record (cell_state_at first p) { most = (cell_state_at after p).most } =
+    rw value at c.join_cells.ensures.only_most in
     let opened : AreOpened net t cells rows constants first after = record {
       sound = sound;
       in_time = c.requires.in_time;
       there = c.requires.cells.around.there;
       bounds = c.requires.bounds;
       constants_each = (rw c.placed-cells.ensures at c.in_ok-constants.ensures.one_each);
-      first_each = (rw c.placed-cells.ensures at c.in_ok-places.ensures.one_each);
+      first_each = (rw c.placed-cells.ensures at c.in_ok-states.ensures.one_each);
       after_each = after_long;
       constants_are = (rw c.placed-cells.ensures at c.in_ok-constants.ensures.each);
-      first_is = (rw c.placed-cells.ensures at c.in_ok-places.ensures.each);
+      first_is = (rw c.placed-cells.ensures at c.in_ok-states.ensures.each);
       only_most = only_most;
     } in
     let before_long : length c.in_ok-before.before.items ≡ length cells =
@@ -53,23 +53,23 @@ returns-clause-placed c =
     let rows = c.args.rows.now in
     let sound : IsNetwork net = subst IsNetwork c.net.view_is c.net.invariant in
     let constants = c.in_ok-constants.constants.items in
-    let first = c.in_ok-places.places.items in
-    let after = c.join_places.new.places in
+    let first = c.in_ok-states.states.items in
+    let after = c.join_cells.new.states in
     let value = c.deref_mut.ensures.value in
-    let after_long : length after ≡ length first = c.join_places.auto.places ∙ ap length value in
-    let after_is = with_items_is c.in_ok-places.places after (c.join_places.auto.places ∙ c.deref_mut.ensures.len) in
-    let only_most : (p : ℕ) → place_at after p ≡ record (place_at first p) { most = (place_at after p).most } =
-    rw value at c.join_places.ensures.only_most in
+    let after_long : length after ≡ length first = c.join_cells.auto.states ∙ ap length value in
+    let after_is = with_items_is c.in_ok-states.states after (c.join_cells.auto.states ∙ c.deref_mut.ensures.len) in
+    let only_most : (p : ℕ) → cell_state_at after p ≡ record (cell_state_at first p) { most = (cell_state_at after p).most } =
+    rw value at c.join_cells.ensures.only_most in
     let opened : AreOpened net t cells rows constants first after = record {
       sound = sound;
       in_time = c.requires.in_time;
       there = c.requires.cells.around.there;
       bounds = c.requires.bounds;
       constants_each = (rw c.placed-cells.ensures at c.in_ok-constants.ensures.one_each);
-      first_each = (rw c.placed-cells.ensures at c.in_ok-places.ensures.one_each);
+      first_each = (rw c.placed-cells.ensures at c.in_ok-states.ensures.one_each);
       after_each = after_long;
       constants_are = (rw c.placed-cells.ensures at c.in_ok-constants.ensures.each);
-      first_is = (rw c.placed-cells.ensures at c.in_ok-places.ensures.each);
+      first_is = (rw c.placed-cells.ensures at c.in_ok-states.ensures.each);
       only_most = only_most;
     } in
     let before_long : length c.in_ok-before.before.items ≡ length cells =
@@ -88,7 +88,7 @@ returns-clause-placed c =
       before_each = before_long;
       own = λ p within. (opened-cell net t cells rows constants first after p opened within).1;
       space = λ p within.
-          subst (λ space. IsSpaceOf space (room_at net.cells (slice_index cells p))) (sym (ap (λ place. place.space) (only_most p)))
+          subst (λ space. IsSpaceOf space (room_at net.cells (slice_index cells p))) (sym (ap (λ state. state.space) (only_most p)))
           (opened.first_is p within).space;
       come = c.in_ok-connections.ensures.come;
       unchanged = λ k d within. omega arith;
@@ -112,23 +112,23 @@ returns-clause-rows c =
     let rows = c.args.rows.now in
     let sound : IsNetwork net = subst IsNetwork c.net.view_is c.net.invariant in
     let constants = c.in_ok-constants.constants.items in
-    let first = c.in_ok-places.places.items in
-    let after = c.join_places.new.places in
+    let first = c.in_ok-states.states.items in
+    let after = c.join_cells.new.states in
     let value = c.deref_mut.ensures.value in
-    let after_long : length after ≡ length first = c.join_places.auto.places ∙ ap length value in
-    let after_is = with_items_is c.in_ok-places.places after (c.join_places.auto.places ∙ c.deref_mut.ensures.len) in
-    let only_most : (p : ℕ) → place_at after p ≡ record (place_at first p) { most = (place_at after p).most } =
-    rw value at c.join_places.ensures.only_most in
+    let after_long : length after ≡ length first = c.join_cells.auto.states ∙ ap length value in
+    let after_is = with_items_is c.in_ok-states.states after (c.join_cells.auto.states ∙ c.deref_mut.ensures.len) in
+    let only_most : (p : ℕ) → cell_state_at after p ≡ record (cell_state_at first p) { most = (cell_state_at after p).most } =
+    rw value at c.join_cells.ensures.only_most in
     let opened : AreOpened net t cells rows constants first after = record {
       sound = sound;
       in_time = c.requires.in_time;
       there = c.requires.cells.around.there;
       bounds = c.requires.bounds;
       constants_each = (rw c.placed-cells.ensures at c.in_ok-constants.ensures.one_each);
-      first_each = (rw c.placed-cells.ensures at c.in_ok-places.ensures.one_each);
+      first_each = (rw c.placed-cells.ensures at c.in_ok-states.ensures.one_each);
       after_each = after_long;
       constants_are = (rw c.placed-cells.ensures at c.in_ok-constants.ensures.each);
-      first_is = (rw c.placed-cells.ensures at c.in_ok-places.ensures.each);
+      first_is = (rw c.placed-cells.ensures at c.in_ok-states.ensures.each);
       only_most = only_most;
     } in
     let before_long : length c.in_ok-before.before.items ≡ length cells =

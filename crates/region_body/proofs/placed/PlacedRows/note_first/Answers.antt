@@ -1,13 +1,13 @@
 use Rattle.std.proofs.Common.{◌≡◌, ap, ◌∙◌, length, arith}
 use Rattle.std.proofs.lemmas.List.{with_items_is}
-use Rattle.region_body.specs.Places.{place_at}
+use Rattle.region_body.specs.CellStates.{cell_state_at}
 use Rattle.region_body.proofs.Stays.{unowed}
 use Rattle.region_body.proofs.placed.PlacedRows.note_first.Goals as goal
 
 pub returns-then-self-eq0-clause-before : goal.returns-then-self-eq0-clause-before
 returns-then-self-eq0-clause-before c = λ p within.
     let inside = c.self.inside in
-    let places : c.deref.result.now ≡ c.args.self.now.places =
-    c.deref.ensures.value ∙ unowed inside.pause.owed inside.places.items c.args.self.now.places (ap (λ rows. rows.places) c.self.view_is) c.if-self-eq0.true in
+    let states : c.deref.result.now ≡ c.args.self.now.states =
+    c.deref.ensures.value ∙ unowed inside.pause.owed inside.states.items c.args.self.now.states (ap (λ rows. rows.states) c.self.view_is) c.if-self-eq0.true in
     rw (with_items_is inside.before c.note_held.new.before (c.note_held.auto.before ∙ c.deref_mut.ensures.len))
-    (c.note_held.ensures p (omega (arith, within, ap length places)) ∙ ap (λ list. (place_at list p).n) places)
+    (c.note_held.ensures p (omega (arith, within, ap length states)) ∙ ap (λ list. (cell_state_at list p).n) states)

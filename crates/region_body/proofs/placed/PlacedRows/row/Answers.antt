@@ -2,45 +2,45 @@ use Rattle.std.specs.Prelude.{false, map}
 use Rattle.std.proofs.Common.{◌≡◌, ◌<◌, List, length, sym, ap, ◌∙◌, arith}
 use Rattle.std.proofs.lemmas.List.{get_or_read}
 use Rattle.flow_model.specs.State.{row_at}
-use Rattle.region_body.specs.Places.{no_place, place_at}
-use Rattle.region_body.specs.declared.place.Place.{Place}
+use Rattle.region_body.specs.CellStates.{no_state, cell_state_at}
+use Rattle.region_body.specs.declared.cell_state.CellState.{CellState}
 use Rattle.region_body.specs.Rows.{constants_at, row_of, rows_of}
 use Rattle.region_body.specs.Waiting.{waited}
 use Rattle.region_body.specs.declared.cell_constants.CellConstants.{CellConstants}
-use Rattle.region_body.proofs.Stays.{length-waited, place_at-waited}
+use Rattle.region_body.proofs.Stays.{length-waited, cell_state_at-waited}
 use Rattle.region_body.proofs.Whole.{row_at-rows_of}
-use Rattle.region_body.proofs.placed.PlacedRows.row.Goals.{After-place-1}
+use Rattle.region_body.proofs.placed.PlacedRows.row.Goals.{After-state-1}
 use Rattle.region_body.proofs.placed.PlacedRows.row.Goals as goal
 
 abbrev no_constants : CellConstants
 no_constants = record { first = 0; is_exit = false }
 
-now : After-place-1 → List Place
-now c = map (waited c.self.inside.pause.owed) c.self.inside.places.items
+now : After-state-1 → List CellState
+now c = map (waited c.self.inside.pause.owed) c.self.inside.states.items
 
-within : (c : After-place-1) → c.args.i < length c.self.inside.constants.items
+within : (c : After-state-1) → c.args.i < length c.self.inside.constants.items
 within c = rw (ap (λ v. length v.constants) c.self.view_is) c.requires
 
-there : (c : After-place-1) → c.args.i < length c.self.inside.places.items
-there c = omega (arith, within c, c.self.invariant.one_each, length-waited c.self.inside.pause.owed c.self.inside.places.items)
+there : (c : After-state-1) → c.args.i < length c.self.inside.states.items
+there c = omega (arith, within c, c.self.invariant.one_each, length-waited c.self.inside.pause.owed c.self.inside.states.items)
 
-constants-are : (c : After-place-1) → c.index-2.result.now ≡ constants_at c.self.inside.constants.items c.args.i
+constants-are : (c : After-state-1) → c.index-2.result.now ≡ constants_at c.self.inside.constants.items c.args.i
 constants-are c = get_or_read c.self.inside.constants.items c.args.i c.index-2.result.now (within c) c.index-2.ensures no_constants
 
-place-is : (c : After-place-1) → c.waited-place.result ≡ place_at (map (waited c.self.inside.pause.owed) c.self.inside.places.items) c.args.i
-place-is c =
-    c.waited-place.ensures
-    ∙ ap (waited c.self.inside.pause.owed) (get_or_read c.self.inside.places.items c.args.i c.index.result.now (there c) c.index.ensures no_place)
-    ∙ sym (place_at-waited c.self.inside.pause.owed c.self.inside.places.items c.args.i (there c))
+state-is : (c : After-state-1) → c.waited-state.result ≡ cell_state_at (map (waited c.self.inside.pause.owed) c.self.inside.states.items) c.args.i
+state-is c =
+    c.waited-state.ensures
+    ∙ ap (waited c.self.inside.pause.owed) (get_or_read c.self.inside.states.items c.args.i c.index.result.now (there c) c.index.ensures no_state)
+    ∙ sym (cell_state_at-waited c.self.inside.pause.owed c.self.inside.states.items c.args.i (there c))
 
 pub row-requires : goal.row-requires
-row-requires c = rw (constants-are c, place-is c) (c.self.invariant.each c.args.i (within c))
+row-requires c = rw (constants-are c, state-is c) (c.self.invariant.each c.args.i (within c))
 
 pub returns : goal.returns
 returns c =
-    let e : After-place-1 = (goal.at.returns c).After-place-1 in
+    let e : After-state-1 = (goal.at.returns c).After-state-1 in
     let constants = c.self.inside.constants.items in
-    let places = map (waited c.self.inside.pause.owed) c.self.inside.places.items in
-    c.row.ensures ∙ ap (λ one. row_of one c.waited-place.result) (constants-are e) ∙ ap (row_of (constants_at constants c.args.i)) (place-is e)
-    ∙ sym (row_at-rows_of constants places c.args.i (within e))
-    ∙ ap (λ v. row_at (rows_of v.constants v.places) c.args.i) c.self.view_is
+    let states = map (waited c.self.inside.pause.owed) c.self.inside.states.items in
+    c.row.ensures ∙ ap (λ one. row_of one c.waited-state.result) (constants-are e) ∙ ap (row_of (constants_at constants c.args.i)) (state-is e)
+    ∙ sym (row_at-rows_of constants states c.args.i (within e))
+    ∙ ap (λ v. row_at (rows_of v.constants v.states) c.args.i) c.self.view_is

@@ -5,7 +5,7 @@ use Rattle.region_body.specs.Placed.{ArePlaced, CanAdvance, PlacedCells}
 use Rattle.region_body.specs.Rows.{rows_of}
 use Rattle.region_body.specs.Waiting.{waited}
 use Rattle.region_body.proofs.Parting.{refs-there}
-use Rattle.region_body.proofs.Pausing.{advance-awake, awake, placed-paused, placed-waited, places-awake, rows-awake, rows-waited, sums-fit, waiting}
+use Rattle.region_body.proofs.Pausing.{advance-awake, awake, placed-paused, placed-waited, states-awake, rows-awake, rows-waited, sums-fit, waiting}
 use Rattle.region_body.proofs.placed.PlacedRows.step.Goals.{After-look-arg-1, After-wait}
 use Rattle.region_body.proofs.placed.PlacedRows.step.Goals as goal
 
@@ -19,12 +19,12 @@ wait-requires-clause-sums c =
 waits : (c : After-wait) → c.wait.new.self ≡ waiting c.args.self.now c.waits_through.new.self.gates c.wait.new.self.before
 waits c =
     let more : PlacedCells → PlacedCells = λ rows.
-    record rows { places = map (waited 1) rows.places; before = c.wait.new.self.before; pause = record rows.pause { owed = rows.pause.owed + 1 } } in
+    record rows { states = map (waited 1) rows.states; before = c.wait.new.self.before; pause = record rows.pause { owed = rows.pause.owed + 1 } } in
     c.wait.ensures.waits ∙ ap more c.waits_through.ensures.only_gates
 
 pub returns-then-waits_through-clause-rows : goal.returns-then-waits_through-clause-rows
 returns-then-waits_through-clause-rows c = λ can.
-    ap (λ cells. rows_of cells.constants cells.places) (waits (goal.at.returns-then-waits_through-clause-rows c).After-wait)
+    ap (λ cells. rows_of cells.constants cells.states) (waits (goal.at.returns-then-waits_through-clause-rows c).After-wait)
     ∙ rows-waited c.args.net.now c.args.cells.now c.args.t c.args.self.now c.args.put.now (subst IsNetwork c.net.view_is c.net.invariant) c.requires.in_time
     (c.waits_through.ensures.waits c.if-waits_through.true) can
 
@@ -52,7 +52,7 @@ take_step-requires-clause-can c =
 placed : (c : After-look-arg-1) (can : CanAdvance c.args.net.now c.args.cells.now c.args.t c.args.self.now c.args.put.now) →
     ArePlaced c.args.net.now c.args.cells.now can.halo can.connectors (c.args.t + 1) c.take_step.new.self
 placed c =
-    places-awake c.args.net.now c.args.cells.now c.args.t c.args.self.now c.wake.new.self c.take_step.new.self c.waits_through.new.self.gates c.args.put.now
+    states-awake c.args.net.now c.args.cells.now c.args.t c.args.self.now c.wake.new.self c.take_step.new.self c.waits_through.new.self.gates c.args.put.now
     (wakes c.args.self.now c.waits_through.new.self c.wake.new.self c.waits_through.ensures.only_gates c.wake.ensures) c.waits_through.ensures.gates c.take_step.ensures.placed
 
 pub look-requires-clause-there : goal.look-requires-clause-there
@@ -61,12 +61,12 @@ look-requires-clause-there c = λ k d within. ((placed c c.requires.can).links k
 pub look-requires-clause-cells : goal.look-requires-clause-cells
 look-requires-clause-cells c = λ k d within.
     let is = placed c c.requires.can in
-    refs-there c.args.net.now c.args.cells.now c.requires.can.halo c.take_step.new.self.places c.args.put.now _ is.one_each c.requires.can.bounds.put_each
+    refs-there c.args.net.now c.args.cells.now c.requires.can.halo c.take_step.new.self.states c.args.put.now _ is.one_each c.requires.can.bounds.put_each
     (is.connected.each k d within)
 
 pub returns-else-waits_through-clause-rows : goal.returns-else-waits_through-clause-rows
 returns-else-waits_through-clause-rows c = λ can.
-    ap (λ cells. rows_of cells.constants cells.places) c.look.ensures.only_pause
+    ap (λ cells. rows_of cells.constants cells.states) c.look.ensures.only_pause
     ∙ rows-awake c.args.net.now c.args.cells.now c.args.t c.args.self.now c.wake.new.self c.take_step.new.self c.waits_through.new.self.gates c.args.put.now
     (wakes c.args.self.now c.waits_through.new.self c.wake.new.self c.waits_through.ensures.only_gates c.wake.ensures) c.waits_through.ensures.gates c.take_step.ensures.rows can
 

@@ -5,8 +5,8 @@ use Rattle.std.proofs.lemmas.List.{with_items_is}
 use Rattle.signal_plan.specs.Speeds.{IsSpeed}
 use Rattle.network_file.specs.Network.{IsNetwork}
 use Rattle.flow_model.proofs.CellLimits.{speed_at-sound}
-use Rattle.region_body.specs.Places.{place_at, swept, with_entered}
-use Rattle.region_body.specs.declared.place.Place.{Place}
+use Rattle.region_body.specs.CellStates.{cell_state_at, swept, with_entered}
+use Rattle.region_body.specs.declared.cell_state.CellState.{CellState}
 use Rattle.region_body.specs.Carrying.{AreConnectorsFollowed, passed}
 use Rattle.region_body.specs.Gates.{demand_into}
 use Rattle.region_body.specs.Placed.{CanAdvance, PlacedCells}
@@ -25,7 +25,7 @@ use Rattle.region_body.proofs.placed.PlacedRows.take_step.Goals as goal
 -- the cells as they were
 abbrev opened : Inside → PlacedCells
 opened rows = record {
-  places = rows.places.items;
+  states = rows.states.items;
   constants = rows.constants.items;
   before = rows.before.items;
   speeds = rows.speeds.items;
@@ -42,12 +42,12 @@ opened rows = record {
 
 -- as contracts see them
 abbrev viewed : Inside → PlacedCells
-viewed rows = record (opened rows) { places = map (waited rows.pause.owed) rows.places.items }
+viewed rows = record (opened rows) { states = map (waited rows.pause.owed) rows.states.items }
 
 opened-is : (rows : Inside) (now : PlacedCells) → viewed rows ≡ now → now.pause.owed ≡ 0 → opened rows ≡ now
 opened-is rows now is none =
-    let same : map (waited rows.pause.owed) rows.places.items ≡ rows.places.items =
-    waited-unowed rows.pause.owed rows.places.items (ap (λ cells. cells.pause.owed) is ∙ none) in
+    let same : map (waited rows.pause.owed) rows.states.items ≡ rows.states.items =
+    waited-unowed rows.pause.owed rows.states.items (ap (λ cells. cells.pause.owed) is ∙ none) in
     rw same at is
 
 -- once the links and the other connectors are followed
@@ -67,7 +67,7 @@ sound c = subst IsNetwork c.net.view_is c.net.invariant
 -- what is renewed for the step
 abbrev renewed : After-follow_connectors-self-inside → Renewal
 renewed c = record {
-  places = c.refresh.new.places;
+  states = c.refresh.new.states;
   links = c.refresh.new.links;
   timelines = c.follow_speeds-self-inside.new.timelines;
   speeds = c.follow_speeds-self-inside.new.speeds;
@@ -76,7 +76,7 @@ renewed c = record {
 
 fresh : (c : After-follow_connectors-self-inside) (can : Can c) → IsFresh c.args.net.now c.args.cells.now can.connectors c.args.t (opened c.self.inside) (renewed c)
 fresh c can = fresh-of c.args.net.now c.args.cells.now can.halo can.connectors c.args.t (opened c.self.inside) (renewed c) (sound c) can.laid (record {
-  long = c.refresh.auto.places ∙ ap length c.deref_mut-2.ensures.value;
+  long = c.refresh.auto.states ∙ ap length c.deref_mut-2.ensures.value;
   there = rw c.deref_mut-2.ensures.value at c.refresh.ensures.there;
   most = rw (c.deref_mut.ensures.value, c.deref_mut-2.ensures.value) at c.refresh.ensures.most;
   followed = rw (c.deref_mut.ensures.value, c.deref_mut-2.ensures.value) at c.refresh.ensures.followed;
@@ -88,8 +88,8 @@ fresh c can = fresh-of c.args.net.now c.args.cells.now can.halo can.connectors c
   others = rw (c.deref_mut-3.ensures.value, c.deref_mut-4.ensures.value) at c.follow_speeds-self-inside.ensures.others;
 })
 
-fresh-is : (c : After-follow_connectors-self-inside) → (with_items c.self.inside.places c.refresh.new.places).items ≡ c.refresh.new.places
-fresh-is c = with_items_is c.self.inside.places c.refresh.new.places (c.refresh.auto.places ∙ c.deref_mut-2.ensures.len)
+fresh-is : (c : After-follow_connectors-self-inside) → (with_items c.self.inside.states c.refresh.new.states).items ≡ c.refresh.new.states
+fresh-is c = with_items_is c.self.inside.states c.refresh.new.states (c.refresh.auto.states ∙ c.deref_mut-2.ensures.len)
 
 speeds-are : (c : After-follow_connectors-self-inside) → (with_items c.self.inside.speeds c.follow_speeds-self-inside.new.speeds).items ≡ c.follow_speeds-self-inside.new.speeds
 speeds-are c = with_items_is c.self.inside.speeds c.follow_speeds-self-inside.new.speeds (c.follow_speeds-self-inside.auto.speeds ∙ c.deref_mut-4.ensures.len)
@@ -100,16 +100,16 @@ followed c = rw c.deref_mut-5.ensures.value at c.follow_connectors-self-inside.e
 connectors-are : (c : After-follow_connectors-self-inside) → (with_items c.self.inside.connectors c.follow_connectors-self-inside.new.connectors).items ≡ c.follow_connectors-self-inside.new.connectors
 connectors-are c = with_items_is c.self.inside.connectors c.follow_connectors-self-inside.new.connectors (c.follow_connectors-self-inside.auto.connectors ∙ c.deref_mut-5.ensures.len)
 
--- once the places are swept
-abbrev Swept : (c : After-follow_connectors-self-inside) → Can c → (places : List Place) → (before : List ℕ) → Type 0
-Swept c can places before =
-    IsSwept c.args.net.now c.args.cells.now can.halo can.connectors c.args.t can.n (opened c.self.inside) c.args.put.now (renewed c) c.follow_connectors-self-inside.new.connectors places before
+-- once the states are swept
+abbrev Swept : (c : After-follow_connectors-self-inside) → Can c → (states : List CellState) → (before : List ℕ) → Type 0
+Swept c can states before =
+    IsSwept c.args.net.now c.args.cells.now can.halo can.connectors c.args.t can.n (opened c.self.inside) c.args.put.now (renewed c) c.follow_connectors-self-inside.new.connectors states before
 
-is-swept : (c : After-follow_connectors-self-inside) (can : Can c) (places : List Place) (speeds : List (ℕ × ℕ)) (swept_places : List Place) (before : List ℕ) → places ≡ c.refresh.new.places →
+is-swept : (c : After-follow_connectors-self-inside) (can : Can c) (states : List CellState) (speeds : List (ℕ × ℕ)) (swept_states : List CellState) (before : List ℕ) → states ≡ c.refresh.new.states →
     speeds ≡ c.follow_speeds-self-inside.new.speeds →
-    length swept_places ≡ length places → ((p : ℕ) → p < length places → place_at swept_places p ≡ swept places (at_speeds places speeds) p) →
-    ((p : ℕ) → p < length places → slice_index before p ≡ (place_at places p).n) → length before ≡ length (opened c.self.inside).before → Swept c can swept_places before
-is-swept c can places speeds swept_places before same quick long each noted noted_long = record {
+    length swept_states ≡ length states → ((p : ℕ) → p < length states → cell_state_at swept_states p ≡ swept states (at_speeds states speeds) p) →
+    ((p : ℕ) → p < length states → slice_index before p ≡ (cell_state_at states p).n) → length before ≡ length (opened c.self.inside).before → Swept c can swept_states before
+is-swept c can states speeds swept_states before same quick long each noted noted_long = record {
   sound = sound c;
   in_time = c.requires.in_time;
   laid = can.laid;
@@ -123,10 +123,10 @@ is-swept c can places speeds swept_places before same quick long each noted note
   noted = rw same at noted;
 }
 
-swept-is : (c : After-follow_connectors-self-inside) (places swept_places : List Place) → places ≡ c.refresh.new.places → length swept_places ≡ length places →
-    (with_items (with_items c.self.inside.places c.refresh.new.places) swept_places).items ≡ swept_places
-swept-is c places swept_places same long =
-    with_items_is (with_items c.self.inside.places c.refresh.new.places) swept_places (long ∙ ap length same ∙ c.refresh.auto.places ∙ c.deref_mut-2.ensures.len)
+swept-is : (c : After-follow_connectors-self-inside) (states swept_states : List CellState) → states ≡ c.refresh.new.states → length swept_states ≡ length states →
+    (with_items (with_items c.self.inside.states c.refresh.new.states) swept_states).items ≡ swept_states
+swept-is c states swept_states same long =
+    with_items_is (with_items c.self.inside.states c.refresh.new.states) swept_states (long ∙ ap length same ∙ c.refresh.auto.states ∙ c.deref_mut-2.ensures.len)
 
 pub follow_speeds-self-inside-requires-clause-speeds : goal.follow_speeds-self-inside-requires-clause-speeds
 follow_speeds-self-inside-requires-clause-speeds c =
@@ -140,7 +140,7 @@ sweep-requires-clause-sound c =
     let can = can-step e in
     let new = fresh e can in
     rw (c.deref_mut-6.ensures.value ∙ fresh-is e)
-    (sound-sending c.refresh.new.places c.follow_speeds-self-inside.new.speeds
+    (sound-sending c.refresh.new.states c.follow_speeds-self-inside.new.speeds
     (sound-fresh c.args.net.now c.args.t can.n c.args.cells.now can.halo can.connectors (opened c.self.inside) (sending (renewed e)) c.args.put.now (sound e) c.requires.in_time
     can.laid can.bounds can.seen new.renewed))
 
@@ -156,112 +156,112 @@ pub carry_all-requires-clause-each : goal.carry_all-requires-clause-each
 carry_all-requires-clause-each c =
     let e : After-follow_connectors-self-inside = (goal.at.carry_all-requires-clause-each c).After-follow_connectors-self-inside in
     let can = can-step e in
-    let places = c.sweep.new.places in
+    let states = c.sweep.new.states in
     let before = c.sweep.new.before in
     let others : List FollowedConnector = c.follow_connectors-self-inside.new.connectors in
-    let same : c.deref_mut-6.result.now ≡ c.refresh.new.places = c.deref_mut-6.ensures.value ∙ fresh-is e in
-    let is = is-swept e can c.deref_mut-6.result.now c.deref.result.now places before same (c.deref.ensures.value ∙ speeds-are e) c.sweep.auto.places c.sweep.ensures.places c.sweep.ensures.before (c.sweep.auto.before ∙ ap length c.deref_mut-7.ensures.value) in
-    rw (c.deref_mut-8.ensures.value ∙ swept-is e c.deref_mut-6.result.now places same c.sweep.auto.places, c.deref-3.ensures.value ∙ connectors-are e)
-    (λ k d within. can-carry-each c.args.net.now c.args.cells.now can.halo can.connectors c.args.t can.n (opened c.self.inside) c.args.put.now (renewed e) others places before k d is within)
+    let same : c.deref_mut-6.result.now ≡ c.refresh.new.states = c.deref_mut-6.ensures.value ∙ fresh-is e in
+    let is = is-swept e can c.deref_mut-6.result.now c.deref.result.now states before same (c.deref.ensures.value ∙ speeds-are e) c.sweep.auto.states c.sweep.ensures.states c.sweep.ensures.before (c.sweep.auto.before ∙ ap length c.deref_mut-7.ensures.value) in
+    rw (c.deref_mut-8.ensures.value ∙ swept-is e c.deref_mut-6.result.now states same c.sweep.auto.states, c.deref-3.ensures.value ∙ connectors-are e)
+    (λ k d within. can-carry-each c.args.net.now c.args.cells.now can.halo can.connectors c.args.t can.n (opened c.self.inside) c.args.put.now (renewed e) others states before k d is within)
 
 pub carry_all-requires-clause-can : goal.carry_all-requires-clause-can
 carry_all-requires-clause-can c =
     let e : After-follow_connectors-self-inside = (goal.at.carry_all-requires-clause-can c).After-follow_connectors-self-inside in
     let can = can-step e in
-    let places = c.sweep.new.places in
+    let states = c.sweep.new.states in
     let before = c.sweep.new.before in
     let others : List FollowedConnector = c.follow_connectors-self-inside.new.connectors in
-    let same : c.deref_mut-6.result.now ≡ c.refresh.new.places = c.deref_mut-6.ensures.value ∙ fresh-is e in
-    let is = is-swept e can c.deref_mut-6.result.now c.deref.result.now places before same (c.deref.ensures.value ∙ speeds-are e) c.sweep.auto.places c.sweep.ensures.places c.sweep.ensures.before (c.sweep.auto.before ∙ ap length c.deref_mut-7.ensures.value) in
+    let same : c.deref_mut-6.result.now ≡ c.refresh.new.states = c.deref_mut-6.ensures.value ∙ fresh-is e in
+    let is = is-swept e can c.deref_mut-6.result.now c.deref.result.now states before same (c.deref.ensures.value ∙ speeds-are e) c.sweep.auto.states c.sweep.ensures.states c.sweep.ensures.before (c.sweep.auto.before ∙ ap length c.deref_mut-7.ensures.value) in
     rw (
-      c.deref_mut-8.ensures.value ∙ swept-is e c.deref_mut-6.result.now places same c.sweep.auto.places,
+      c.deref_mut-8.ensures.value ∙ swept-is e c.deref_mut-6.result.now states same c.sweep.auto.states,
       c.deref-3.ensures.value ∙ connectors-are e,
       c.deref-4.ensures.value ∙ with_items_is c.self.inside.before before (c.sweep.auto.before ∙ c.deref_mut-7.ensures.len),
     )
-    (λ p within. can-pass-each c.args.net.now c.args.cells.now can.halo can.connectors c.args.t can.n (opened c.self.inside) c.args.put.now (renewed e) others places before p is within)
+    (λ p within. can-pass-each c.args.net.now c.args.cells.now can.halo can.connectors c.args.t can.n (opened c.self.inside) c.args.put.now (renewed e) others states before p is within)
 
 -- once the other connectors have carried
 
-carried-is : (c : After-follow_connectors-self-inside) (places swept_places before_carry carried : List Place) → places ≡ c.refresh.new.places → length swept_places ≡ length places →
-    before_carry ≡ swept_places → length carried ≡ length before_carry →
-    (with_items (with_items (with_items c.self.inside.places c.refresh.new.places) swept_places) carried).items ≡ carried
-carried-is c places swept_places before_carry carried same long same_swept long_carried =
-    with_items_is (with_items (with_items c.self.inside.places c.refresh.new.places) swept_places) carried
-    (long_carried ∙ ap length same_swept ∙ long ∙ ap length same ∙ c.refresh.auto.places ∙ c.deref_mut-2.ensures.len)
+carried-is : (c : After-follow_connectors-self-inside) (states swept_states before_carry carried : List CellState) → states ≡ c.refresh.new.states → length swept_states ≡ length states →
+    before_carry ≡ swept_states → length carried ≡ length before_carry →
+    (with_items (with_items (with_items c.self.inside.states c.refresh.new.states) swept_states) carried).items ≡ carried
+carried-is c states swept_states before_carry carried same long same_swept long_carried =
+    with_items_is (with_items (with_items c.self.inside.states c.refresh.new.states) swept_states) carried
+    (long_carried ∙ ap length same_swept ∙ long ∙ ap length same ∙ c.refresh.auto.states ∙ c.deref_mut-2.ensures.len)
 
 pub bring_demands-requires-clause-there : goal.bring_demands-requires-clause-there
 bring_demands-requires-clause-there c =
     let e : After-follow_connectors-self-inside = (goal.at.bring_demands-requires-clause-there c).After-follow_connectors-self-inside in
     let can = can-step e in
     let new = fresh e can in
-    let places = c.sweep.new.places in
-    let same : c.deref_mut-6.result.now ≡ c.refresh.new.places = c.deref_mut-6.ensures.value ∙ fresh-is e in
-    let swept_is : c.deref_mut-8.result.now ≡ places = c.deref_mut-8.ensures.value ∙ swept-is e c.deref_mut-6.result.now places same c.sweep.auto.places in
-    let carried_is : c.deref_mut-10.result.now ≡ c.carry_all.new.places =
-    c.deref_mut-10.ensures.value ∙ carried-is e c.deref_mut-6.result.now places c.deref_mut-8.result.now c.carry_all.new.places same c.sweep.auto.places swept_is c.carry_all.auto.places in
+    let states = c.sweep.new.states in
+    let same : c.deref_mut-6.result.now ≡ c.refresh.new.states = c.deref_mut-6.ensures.value ∙ fresh-is e in
+    let swept_is : c.deref_mut-8.result.now ≡ states = c.deref_mut-8.ensures.value ∙ swept-is e c.deref_mut-6.result.now states same c.sweep.auto.states in
+    let carried_is : c.deref_mut-10.result.now ≡ c.carry_all.new.states =
+    c.deref_mut-10.ensures.value ∙ carried-is e c.deref_mut-6.result.now states c.deref_mut-8.result.now c.carry_all.new.states same c.sweep.auto.states swept_is c.carry_all.auto.states in
     let long : length c.deref_mut-10.result.now ≡ length c.args.cells.now =
-    ap length carried_is ∙ c.carry_all.auto.places ∙ ap length swept_is ∙ c.sweep.auto.places ∙ ap length same ∙ new.kept.long ∙ can.laid.one_each in
+    ap length carried_is ∙ c.carry_all.auto.states ∙ ap length swept_is ∙ c.sweep.auto.states ∙ ap length same ∙ new.kept.long ∙ can.laid.one_each in
     rw (c.deref_mut-9.ensures.value, long) (gates-there c.args.net.now c.args.cells.now can.halo can.connectors c.args.t (opened c.self.inside) can.laid)
 
 pub bring_demands-requires-clause-fits : goal.bring_demands-requires-clause-fits
 bring_demands-requires-clause-fits c =
     let e : After-follow_connectors-self-inside = (goal.at.bring_demands-requires-clause-fits c).After-follow_connectors-self-inside in
     let can = can-step e in
-    let places = c.sweep.new.places in
+    let states = c.sweep.new.states in
     let before = c.sweep.new.before in
     let others : List FollowedConnector = c.follow_connectors-self-inside.new.connectors in
-    let same : c.deref_mut-6.result.now ≡ c.refresh.new.places = c.deref_mut-6.ensures.value ∙ fresh-is e in
-    let is = is-swept e can c.deref_mut-6.result.now c.deref.result.now places before same (c.deref.ensures.value ∙ speeds-are e) c.sweep.auto.places c.sweep.ensures.places c.sweep.ensures.before (c.sweep.auto.before ∙ ap length c.deref_mut-7.ensures.value) in
-    let swept_is : c.deref_mut-8.result.now ≡ places = c.deref_mut-8.ensures.value ∙ swept-is e c.deref_mut-6.result.now places same c.sweep.auto.places in
-    let carried_is : c.deref_mut-10.result.now ≡ c.carry_all.new.places =
-    c.deref_mut-10.ensures.value ∙ carried-is e c.deref_mut-6.result.now places c.deref_mut-8.result.now c.carry_all.new.places same c.sweep.auto.places swept_is c.carry_all.auto.places in
-    let passes : (p : ℕ) → p < length places → place_at c.carry_all.new.places p ≡
-    passed (place_at places p) (carried_to c.args.t before c.args.put.now others p) (outs_of c.args.t before c.args.put.now others p) =
+    let same : c.deref_mut-6.result.now ≡ c.refresh.new.states = c.deref_mut-6.ensures.value ∙ fresh-is e in
+    let is = is-swept e can c.deref_mut-6.result.now c.deref.result.now states before same (c.deref.ensures.value ∙ speeds-are e) c.sweep.auto.states c.sweep.ensures.states c.sweep.ensures.before (c.sweep.auto.before ∙ ap length c.deref_mut-7.ensures.value) in
+    let swept_is : c.deref_mut-8.result.now ≡ states = c.deref_mut-8.ensures.value ∙ swept-is e c.deref_mut-6.result.now states same c.sweep.auto.states in
+    let carried_is : c.deref_mut-10.result.now ≡ c.carry_all.new.states =
+    c.deref_mut-10.ensures.value ∙ carried-is e c.deref_mut-6.result.now states c.deref_mut-8.result.now c.carry_all.new.states same c.sweep.auto.states swept_is c.carry_all.auto.states in
+    let passes : (p : ℕ) → p < length states → cell_state_at c.carry_all.new.states p ≡
+    passed (cell_state_at states p) (carried_to c.args.t before c.args.put.now others p) (outs_of c.args.t before c.args.put.now others p) =
     rw (swept_is, c.deref-3.ensures.value ∙ connectors-are e, c.deref-4.ensures.value ∙ with_items_is c.self.inside.before before (c.sweep.auto.before ∙ c.deref_mut-7.ensures.len)) at c.carry_all.ensures in
     rw (carried_is, c.deref_mut-9.ensures.value)
-    (λ p within. can-enter-each c.args.net.now c.args.cells.now can.halo can.connectors c.args.t can.n (opened c.self.inside) c.args.put.now (renewed e) others places before c.carry_all.new.places p is (c.carry_all.auto.places ∙ ap length swept_is) passes within)
+    (λ p within. can-enter-each c.args.net.now c.args.cells.now can.halo can.connectors c.args.t can.n (opened c.self.inside) c.args.put.now (renewed e) others states before c.carry_all.new.states p is (c.carry_all.auto.states ∙ ap length swept_is) passes within)
 
 -- once the gates have demanded
 
-taken-steps : (c : After-follow_connectors-self-inside) (can : Can c) (speeds : List (ℕ × ℕ)) (places swept_places before_carry carried before_demands after : List Place) (before own : List ℕ) (others : List FollowedConnector) →
-    (gates : List GatePlace) → speeds ≡ c.follow_speeds-self-inside.new.speeds → places ≡ c.refresh.new.places → length swept_places ≡ length places → ((p : ℕ) → p < length places → place_at swept_places p ≡ swept places (at_speeds places speeds) p) →
-    ((p : ℕ) → p < length places → slice_index before p ≡ (place_at places p).n) → length before ≡ length (opened c.self.inside).before → before_carry ≡ swept_places → others ≡ c.follow_connectors-self-inside.new.connectors → own ≡ before →
+taken-steps : (c : After-follow_connectors-self-inside) (can : Can c) (speeds : List (ℕ × ℕ)) (states swept_states before_carry carried before_demands after : List CellState) (before own : List ℕ) (others : List FollowedConnector) →
+    (gates : List GatePlace) → speeds ≡ c.follow_speeds-self-inside.new.speeds → states ≡ c.refresh.new.states → length swept_states ≡ length states → ((p : ℕ) → p < length states → cell_state_at swept_states p ≡ swept states (at_speeds states speeds) p) →
+    ((p : ℕ) → p < length states → slice_index before p ≡ (cell_state_at states p).n) → length before ≡ length (opened c.self.inside).before → before_carry ≡ swept_states → others ≡ c.follow_connectors-self-inside.new.connectors → own ≡ before →
     length carried ≡ length before_carry →
-    ((p : ℕ) → p < length before_carry → place_at carried p ≡
-    passed (place_at before_carry p) (carried_to c.args.t own c.args.put.now others p) (outs_of c.args.t own c.args.put.now others p)) →
+    ((p : ℕ) → p < length before_carry → cell_state_at carried p ≡
+    passed (cell_state_at before_carry p) (carried_to c.args.t own c.args.put.now others p) (outs_of c.args.t own c.args.put.now others p)) →
     before_demands ≡ carried → gates ≡ (opened c.self.inside).gates → length after ≡ length before_demands →
-    ((p : ℕ) → p < length before_demands → place_at after p ≡ with_entered (place_at before_demands p) (sum_by (demand_into c.args.t p) gates)) →
+    ((p : ℕ) → p < length before_demands → cell_state_at after p ≡ with_entered (cell_state_at before_demands p) (sum_by (demand_into c.args.t p) gates)) →
     AreSteps c.args.net.now c.args.cells.now can.halo can.connectors c.args.t can.n (opened c.self.inside) (renewed c) (outs_of c.args.t before c.args.put.now c.follow_connectors-self-inside.new.connectors) (carried_to c.args.t before c.args.put.now c.follow_connectors-self-inside.new.connectors)
     (ins_of c.args.t before c.args.put.now c.follow_connectors-self-inside.new.connectors (opened c.self.inside)) after
-taken-steps c can speeds places swept_places before_carry carried before_demands after before own others gates quick same long each noted noted_long swept_same others_same own_same long_carried passes
+taken-steps c can speeds states swept_states before_carry carried before_demands after before own others gates quick same long each noted noted_long swept_same others_same own_same long_carried passes
     carried_same gates_same long_after enters =
-    let is = is-swept c can places speeds swept_places before same quick long each noted noted_long in
-    steps-of c.args.net.now c.args.cells.now can.halo can.connectors c.args.t can.n (opened c.self.inside) c.args.put.now (renewed c) c.follow_connectors-self-inside.new.connectors swept_places before carried after is (long_carried ∙ ap length swept_same) (long_after ∙ ap length carried_same)
+    let is = is-swept c can states speeds swept_states before same quick long each noted noted_long in
+    steps-of c.args.net.now c.args.cells.now can.halo can.connectors c.args.t can.n (opened c.self.inside) c.args.put.now (renewed c) c.follow_connectors-self-inside.new.connectors swept_states before carried after is (long_carried ∙ ap length swept_same) (long_after ∙ ap length carried_same)
     (rw (swept_same, others_same, own_same) at passes) (rw (carried_same, gates_same) at enters)
 
 pub returns-clause-rows : goal.returns-clause-rows
 returns-clause-rows c =
     let e : After-follow_connectors-self-inside = (goal.at.returns-clause-rows c).After-follow_connectors-self-inside in
-    let first = c.refresh.new.places in
-    let places = c.sweep.new.places in
+    let first = c.refresh.new.states in
+    let states = c.sweep.new.states in
     let noted = c.sweep.new.before in
-    let carried = c.carry_all.new.places in
-    let after = c.bring_demands.new.places in
+    let carried = c.carry_all.new.states in
+    let after = c.bring_demands.new.states in
     let others : List FollowedConnector = c.follow_connectors-self-inside.new.connectors in
     let same : c.deref_mut-6.result.now ≡ first = c.deref_mut-6.ensures.value ∙ fresh-is e in
-    let swept_is : c.deref_mut-8.result.now ≡ places = c.deref_mut-8.ensures.value ∙ swept-is e c.deref_mut-6.result.now places same c.sweep.auto.places in
+    let swept_is : c.deref_mut-8.result.now ≡ states = c.deref_mut-8.ensures.value ∙ swept-is e c.deref_mut-6.result.now states same c.sweep.auto.states in
     let carried_is : c.deref_mut-10.result.now ≡ carried =
-    c.deref_mut-10.ensures.value ∙ carried-is e c.deref_mut-6.result.now places c.deref_mut-8.result.now carried same c.sweep.auto.places swept_is c.carry_all.auto.places in
+    c.deref_mut-10.ensures.value ∙ carried-is e c.deref_mut-6.result.now states c.deref_mut-8.result.now carried same c.sweep.auto.states swept_is c.carry_all.auto.states in
     let before_is = with_items_is c.self.inside.before noted (c.sweep.auto.before ∙ c.deref_mut-7.ensures.len) in
     let after_is =
-    with_items_is (with_items (with_items (with_items c.self.inside.places first) places) carried) after
-    (c.bring_demands.auto.places ∙ ap length carried_is ∙ c.carry_all.auto.places ∙ ap length swept_is ∙ c.sweep.auto.places ∙ ap length same
-    ∙ c.refresh.auto.places ∙ c.deref_mut-2.ensures.len) in
+    with_items_is (with_items (with_items (with_items c.self.inside.states first) states) carried) after
+    (c.bring_demands.auto.states ∙ ap length carried_is ∙ c.carry_all.auto.states ∙ ap length swept_is ∙ c.sweep.auto.states ∙ ap length same
+    ∙ c.refresh.auto.states ∙ c.deref_mut-2.ensures.len) in
     let steps = λ (can : Can e).
-    taken-steps e can c.deref.result.now c.deref_mut-6.result.now places c.deref_mut-8.result.now carried c.deref_mut-10.result.now after noted c.deref-4.result.now c.deref-3.result.now
-    c.deref_mut-9.result.now (c.deref.ensures.value ∙ speeds-are e) same c.sweep.auto.places c.sweep.ensures.places c.sweep.ensures.before (c.sweep.auto.before ∙ ap length c.deref_mut-7.ensures.value) swept_is (c.deref-3.ensures.value ∙ connectors-are e)
-    (c.deref-4.ensures.value ∙ before_is) c.carry_all.auto.places c.carry_all.ensures carried_is c.deref_mut-9.ensures.value c.bring_demands.auto.places
-    c.bring_demands.ensures.places in
+    taken-steps e can c.deref.result.now c.deref_mut-6.result.now states c.deref_mut-8.result.now carried c.deref_mut-10.result.now after noted c.deref-4.result.now c.deref-3.result.now
+    c.deref_mut-9.result.now (c.deref.ensures.value ∙ speeds-are e) same c.sweep.auto.states c.sweep.ensures.states c.sweep.ensures.before (c.sweep.auto.before ∙ ap length c.deref_mut-7.ensures.value) swept_is (c.deref-3.ensures.value ∙ connectors-are e)
+    (c.deref-4.ensures.value ∙ before_is) c.carry_all.auto.states c.carry_all.ensures carried_is c.deref_mut-9.ensures.value c.bring_demands.auto.states
+    c.bring_demands.ensures.states in
     rw (after_is, waited-unowed c.self.inside.pause.owed after (none-owed e)) (
     rows-read c.args.net.now c.args.cells.now c.args.t (opened c.self.inside) c.args.self.now c.args.put.now c.self.inside.constants.items after (opened-is c.self.inside c.args.self.now c.self.view_is c.requires.none_owed)
     (λ can.
@@ -271,26 +271,26 @@ returns-clause-rows c =
 pub returns-clause-placed : goal.returns-clause-placed
 returns-clause-placed c =
     let e : After-follow_connectors-self-inside = (goal.at.returns-clause-placed c).After-follow_connectors-self-inside in
-    let first = c.refresh.new.places in
-    let places = c.sweep.new.places in
+    let first = c.refresh.new.states in
+    let states = c.sweep.new.states in
     let noted = c.sweep.new.before in
-    let carried = c.carry_all.new.places in
-    let after = c.bring_demands.new.places in
+    let carried = c.carry_all.new.states in
+    let after = c.bring_demands.new.states in
     let others : List FollowedConnector = c.follow_connectors-self-inside.new.connectors in
     let same : c.deref_mut-6.result.now ≡ first = c.deref_mut-6.ensures.value ∙ fresh-is e in
-    let swept_is : c.deref_mut-8.result.now ≡ places = c.deref_mut-8.ensures.value ∙ swept-is e c.deref_mut-6.result.now places same c.sweep.auto.places in
+    let swept_is : c.deref_mut-8.result.now ≡ states = c.deref_mut-8.ensures.value ∙ swept-is e c.deref_mut-6.result.now states same c.sweep.auto.states in
     let carried_is : c.deref_mut-10.result.now ≡ carried =
-    c.deref_mut-10.ensures.value ∙ carried-is e c.deref_mut-6.result.now places c.deref_mut-8.result.now carried same c.sweep.auto.places swept_is c.carry_all.auto.places in
+    c.deref_mut-10.ensures.value ∙ carried-is e c.deref_mut-6.result.now states c.deref_mut-8.result.now carried same c.sweep.auto.states swept_is c.carry_all.auto.states in
     let before_is = with_items_is c.self.inside.before noted (c.sweep.auto.before ∙ c.deref_mut-7.ensures.len) in
     let after_is =
-    with_items_is (with_items (with_items (with_items c.self.inside.places first) places) carried) after
-    (c.bring_demands.auto.places ∙ ap length carried_is ∙ c.carry_all.auto.places ∙ ap length swept_is ∙ c.sweep.auto.places ∙ ap length same
-    ∙ c.refresh.auto.places ∙ c.deref_mut-2.ensures.len) in
+    with_items_is (with_items (with_items (with_items c.self.inside.states first) states) carried) after
+    (c.bring_demands.auto.states ∙ ap length carried_is ∙ c.carry_all.auto.states ∙ ap length swept_is ∙ c.sweep.auto.states ∙ ap length same
+    ∙ c.refresh.auto.states ∙ c.deref_mut-2.ensures.len) in
     let steps = λ (can : Can e).
-    taken-steps e can c.deref.result.now c.deref_mut-6.result.now places c.deref_mut-8.result.now carried c.deref_mut-10.result.now after noted c.deref-4.result.now c.deref-3.result.now
-    c.deref_mut-9.result.now (c.deref.ensures.value ∙ speeds-are e) same c.sweep.auto.places c.sweep.ensures.places c.sweep.ensures.before (c.sweep.auto.before ∙ ap length c.deref_mut-7.ensures.value) swept_is (c.deref-3.ensures.value ∙ connectors-are e)
-    (c.deref-4.ensures.value ∙ before_is) c.carry_all.auto.places c.carry_all.ensures carried_is c.deref_mut-9.ensures.value c.bring_demands.auto.places
-    c.bring_demands.ensures.places in
+    taken-steps e can c.deref.result.now c.deref_mut-6.result.now states c.deref_mut-8.result.now carried c.deref_mut-10.result.now after noted c.deref-4.result.now c.deref-3.result.now
+    c.deref_mut-9.result.now (c.deref.ensures.value ∙ speeds-are e) same c.sweep.auto.states c.sweep.ensures.states c.sweep.ensures.before (c.sweep.auto.before ∙ ap length c.deref_mut-7.ensures.value) swept_is (c.deref-3.ensures.value ∙ connectors-are e)
+    (c.deref-4.ensures.value ∙ before_is) c.carry_all.auto.states c.carry_all.ensures carried_is c.deref_mut-9.ensures.value c.bring_demands.auto.states
+    c.bring_demands.ensures.states in
     let placed : PlacedCells = opened c.self.inside in
     let gates = c.bring_demands.new.gates in
     let pause = c.self.inside.pause in
@@ -320,37 +320,37 @@ returns-clause-before c = λ p within.
     let e : After-follow_connectors-self-inside = (goal.at.returns-clause-before c).After-follow_connectors-self-inside in
     let can = can-step e in
     let new = fresh e can in
-    let places : c.deref_mut-6.result.now ≡ c.refresh.new.places = c.deref_mut-6.ensures.value ∙ fresh-is e in
-    let here : p < length c.self.inside.places.items = omega (arith, can.laid.one_each) in
-    let there : p < length c.deref_mut-6.result.now = omega (arith, ap length places, new.kept.long) in
+    let states : c.deref_mut-6.result.now ≡ c.refresh.new.states = c.deref_mut-6.ensures.value ∙ fresh-is e in
+    let here : p < length c.self.inside.states.items = omega (arith, can.laid.one_each) in
+    let there : p < length c.deref_mut-6.result.now = omega (arith, ap length states, new.kept.long) in
     rw (with_items_is c.self.inside.before c.sweep.new.before (c.sweep.auto.before ∙ c.deref_mut-7.ensures.len)) (
-    c.sweep.ensures.before p there ∙ ap (λ list. (place_at list p).n) places ∙ ap (λ place. place.n) (new.kept.only_most p here)
-    ∙ ap (λ cells. (place_at cells.places p).n) (opened-is c.self.inside c.args.self.now c.self.view_is c.requires.none_owed)
+    c.sweep.ensures.before p there ∙ ap (λ list. (cell_state_at list p).n) states ∙ ap (λ state. state.n) (new.kept.only_most p here)
+    ∙ ap (λ cells. (cell_state_at cells.states p).n) (opened-is c.self.inside c.args.self.now c.self.view_is c.requires.none_owed)
     )
 
 pub invariant_of-self : goal.invariant_of-self
 invariant_of-self c =
     let e : After-follow_connectors-self-inside = (goal.at.invariant_of-self c).After-follow_connectors-self-inside in
-    let first = c.refresh.new.places in
-    let places = c.sweep.new.places in
+    let first = c.refresh.new.states in
+    let states = c.sweep.new.states in
     let noted = c.sweep.new.before in
-    let carried = c.carry_all.new.places in
-    let after = c.bring_demands.new.places in
+    let carried = c.carry_all.new.states in
+    let after = c.bring_demands.new.states in
     let others : List FollowedConnector = c.follow_connectors-self-inside.new.connectors in
     let same : c.deref_mut-6.result.now ≡ first = c.deref_mut-6.ensures.value ∙ fresh-is e in
-    let swept_is : c.deref_mut-8.result.now ≡ places = c.deref_mut-8.ensures.value ∙ swept-is e c.deref_mut-6.result.now places same c.sweep.auto.places in
+    let swept_is : c.deref_mut-8.result.now ≡ states = c.deref_mut-8.ensures.value ∙ swept-is e c.deref_mut-6.result.now states same c.sweep.auto.states in
     let carried_is : c.deref_mut-10.result.now ≡ carried =
-    c.deref_mut-10.ensures.value ∙ carried-is e c.deref_mut-6.result.now places c.deref_mut-8.result.now carried same c.sweep.auto.places swept_is c.carry_all.auto.places in
+    c.deref_mut-10.ensures.value ∙ carried-is e c.deref_mut-6.result.now states c.deref_mut-8.result.now carried same c.sweep.auto.states swept_is c.carry_all.auto.states in
     let before_is = with_items_is c.self.inside.before noted (c.sweep.auto.before ∙ c.deref_mut-7.ensures.len) in
     let after_is =
-    with_items_is (with_items (with_items (with_items c.self.inside.places first) places) carried) after
-    (c.bring_demands.auto.places ∙ ap length carried_is ∙ c.carry_all.auto.places ∙ ap length swept_is ∙ c.sweep.auto.places ∙ ap length same
-    ∙ c.refresh.auto.places ∙ c.deref_mut-2.ensures.len) in
+    with_items_is (with_items (with_items (with_items c.self.inside.states first) states) carried) after
+    (c.bring_demands.auto.states ∙ ap length carried_is ∙ c.carry_all.auto.states ∙ ap length swept_is ∙ c.sweep.auto.states ∙ ap length same
+    ∙ c.refresh.auto.states ∙ c.deref_mut-2.ensures.len) in
     let steps = λ (can : Can e).
-    taken-steps e can c.deref.result.now c.deref_mut-6.result.now places c.deref_mut-8.result.now carried c.deref_mut-10.result.now after noted c.deref-4.result.now c.deref-3.result.now
-    c.deref_mut-9.result.now (c.deref.ensures.value ∙ speeds-are e) same c.sweep.auto.places c.sweep.ensures.places c.sweep.ensures.before (c.sweep.auto.before ∙ ap length c.deref_mut-7.ensures.value) swept_is (c.deref-3.ensures.value ∙ connectors-are e)
-    (c.deref-4.ensures.value ∙ before_is) c.carry_all.auto.places c.carry_all.ensures carried_is c.deref_mut-9.ensures.value c.bring_demands.auto.places
-    c.bring_demands.ensures.places in
+    taken-steps e can c.deref.result.now c.deref_mut-6.result.now states c.deref_mut-8.result.now carried c.deref_mut-10.result.now after noted c.deref-4.result.now c.deref-3.result.now
+    c.deref_mut-9.result.now (c.deref.ensures.value ∙ speeds-are e) same c.sweep.auto.states c.sweep.ensures.states c.sweep.ensures.before (c.sweep.auto.before ∙ ap length c.deref_mut-7.ensures.value) swept_is (c.deref-3.ensures.value ∙ connectors-are e)
+    (c.deref-4.ensures.value ∙ before_is) c.carry_all.auto.states c.carry_all.ensures carried_is c.deref_mut-9.ensures.value c.bring_demands.auto.states
+    c.bring_demands.ensures.states in
     let can = can-step e in
     let noted_long : length noted ≡ length (opened c.self.inside).before = c.sweep.auto.before ∙ ap length c.deref_mut-7.ensures.value in
     rw (after_is, waited-unowed c.self.inside.pause.owed after (none-owed e), before_is)

@@ -1,15 +1,15 @@
 ghost use Rattle.std.specs.Prelude.{◌≡◌, ◌+◌, ◌<◌, ◌≤◌, ◌^◌, min};
-ghost use Rattle.region_body.specs.Places.{moved, with_entered, with_left};
+ghost use Rattle.region_body.specs.CellStates.{moved, with_entered, with_left};
 
 use connector_flow::Space;
 
 /// What a step touches of a cell. No two of the sums that it raises lie side by side, since they would be raised together
 /// then, as one pair, which takes more instructions.
 #[derive(Clone, Copy)]
-pub(crate) struct Place {
+pub(crate) struct CellState {
     /// What the cell holds.
     pub(crate) n: u64,
-    /// The most that the limits let the link to the next place carry now, 0 where no link joins them.
+    /// The most that the limits let the link to the next cell carry now, 0 where no link joins them.
     pub(crate) most: u64,
     /// All that has gone out of it.
     pub(crate) gone: u64,
@@ -19,7 +19,7 @@ pub(crate) struct Place {
     pub(crate) held: u64,
 }
 
-impl Place {
+impl CellState {
     /// So much leaves it, beside the links between neighbours.
     #[inline(always)]
     pub(crate) fn leave(&mut self, parts: u64)
@@ -40,7 +40,7 @@ impl Place {
         self.n += parts;
     }
 
-    // What the link from here to the next place can carry of what it holds.
+    // What the link from here to the next cell can carry of what it holds.
     #[inline(always)]
     pub(crate) fn sent(&self) -> u64
         ensures { result ≡ min self.now.most self.now.n }

@@ -1,7 +1,7 @@
 use Rattle.std.proofs.Common.{subst, arith}
 use Rattle.network_file.specs.Network.{IsNetwork}
 use Rattle.flow_model.proofs.Bounds.{small}
-use Rattle.region_body.proofs.first.place_of.Goals as goal
+use Rattle.region_body.proofs.first.state_of.Goals as goal
 
 pub overflow_add-result : goal.overflow_add-result
 overflow_add-result c =

@@ -1,5 +1,5 @@
--- What single connectors take from cells and bring to them, and what a step of a region stands on.
-use Rattle.std.specs.Prelude.{◌≡◌, ◌≢◌, ◌==◌, ℕ, ◌<◌, All, List, Option, length, slice_index, if◌then◌else◌}
+-- What single connectors take from cells and bring to them, and what a region's connectors stand on in a step.
+use Rattle.std.specs.Prelude.{◌≡◌, ◌==◌, ℕ, ◌<◌, List, Option, length, slice_index, if◌then◌else◌}
 use Rattle.std.specs.List.{sum_by}
 use Rattle.signal_plan.specs.Demand.{demand_at}
 use Rattle.signal_plan.specs.Records.{PlanRecords}
@@ -7,11 +7,10 @@ use Rattle.network_file.specs.Connectors.{connector_at}
 use Rattle.network_file.specs.Network.{IsNetwork, Network}
 use Rattle.flow_model.specs.Bounds.{IsHeldInBounds}
 use Rattle.flow_model.specs.Flows.{entering, flow_of, leaving}
-use Rattle.region_body.specs.Chains.{AreDistinct}
 use Rattle.region_body.specs.CellRefs.{put_at}
-use Rattle.region_body.specs.Places.{place_at}
-use Rattle.region_body.specs.declared.place.Place.{Place}
-use Rattle.region_body.specs.Carrying.{IsConnected}
+use Rattle.region_body.specs.CellStates.{cell_state_at}
+use Rattle.region_body.specs.declared.cell_state.CellState.{CellState}
+use Rattle.region_body.specs.Carrying.{AreConnectorsAmong}
 use Rattle.region_body.specs.declared.followed_connector.FollowedConnector.{FollowedConnector}
 
 -- what connector k takes from cell i in step t, where the cells hold n
@@ -26,28 +25,17 @@ in_by net t n i k = entering i (connector_at net.connectors k) (flow_of net t n 
 abbrev pub demand_for : PlanRecords → (t : ℕ) → (cells : List ℕ) → (p q : ℕ) → ℕ
 demand_for plan t cells p q = if q == p then demand_at plan (slice_index cells q) t else 0
 
--- the cells hold n: those of the region by their places, those of its halo by what was put there
-pub record IsSeen (n : ℕ → ℕ) (cells halo : List ℕ) (places : List Place) (put : List (Option ℕ)) : Type 0 where
-  pub own : (p : ℕ) → p < length cells → n (slice_index cells p) ≡ (place_at places p).n
-  pub around : (j : ℕ) → j < length halo → n (slice_index halo j) ≡ put_at put j
-
--- connectors of a region: no cell of its halo is its own
-pub record AreConnected (net : Network) (cells halo : List ℕ) (connectors : List FollowedConnector) : Type 0 where
-  pub distinct : AreDistinct cells
-  pub apart : (p j : ℕ) → p < length cells → j < length halo → slice_index cells p ≢ slice_index halo j
-  pub each : All (IsConnected net cells halo) connectors
-
 -- from each place goes what these connectors take from its cell, and to it comes what they bring
 pub record ArePartsOf (net : Network) (t : ℕ) (n : ℕ → ℕ) (cells : List ℕ) (connectors : List FollowedConnector) (outs ins : ℕ → ℕ) : Type 0 where
   pub taken : (p : ℕ) → p < length cells → outs p ≡ sum_by (λ connector. out_by net t n (slice_index cells p) connector.number) connectors
   pub brought : (p : ℕ) → p < length cells → ins p ≡ sum_by (λ connector. in_by net t n (slice_index cells p) connector.number) connectors
 
 -- the region's cells and those of its halo, which are others, with an occupancy in bounds for each, and its connectors
-pub record IsScene (net : Network) (t : ℕ) (cells halo : List ℕ) (connectors : List FollowedConnector) (places : List Place) (put : List (Option ℕ)) : Type 0 where
+pub record IsScene (net : Network) (t : ℕ) (cells halo : List ℕ) (connectors : List FollowedConnector) (states : List CellState) (put : List (Option ℕ)) : Type 0 where
   pub sound : IsNetwork net
   pub before : t < net.steps
-  pub connected : AreConnected net cells halo connectors
-  pub place_each : length places ≡ length cells
+  pub connected : AreConnectorsAmong net cells halo connectors
+  pub state_each : length states ≡ length cells
   pub put_each : length put ≡ length halo
-  pub own : (p : ℕ) → p < length cells → IsHeldInBounds net t (slice_index cells p) (place_at places p).n
+  pub own : (p : ℕ) → p < length cells → IsHeldInBounds net t (slice_index cells p) (cell_state_at states p).n
   pub around : (j : ℕ) → j < length halo → IsHeldInBounds net t (slice_index halo j) (put_at put j)
