@@ -6,17 +6,17 @@ use Rattle.fixed_flow.specs.Limits.{most_parts}
 use Rattle.std.proofs.lemmas.List.Elements.{All-nil}
 use Rattle.converted_file.specs.Converted.{converted, header_line}
 use Rattle.network_file.specs.Draft.{Draft, empty_draft}
+use Rattle.record_fields.specs.Checks.{◌>>=◌}
 use Rattle.record_fields.specs.Fields.{field}
 use Rattle.record_fields.specs.FileRecords.{file_records_of}
 use Rattle.network_file.specs.Formats.{format_of}
 use Rattle.network_file.specs.Network.{Network, load_of}
-use Rattle.network_file.specs.Reading.{at_place, completed, network_in_all, network_of, on_taken, read_file, read_headed, read_records, cutting_of_draft}
+use Rattle.network_file.specs.Reading.{at_place, network_in_all, network_of, read_file, read_records, cutting_of_draft}
 use Rattle.converted_file.specs.SameNetwork.{SaysTheSame}
 use Rattle.network_file.specs.Taking.{take_record}
 use Rattle.network_file.specs.declared.cell.Cell.{Cell}
 use Rattle.record_fields.specs.declared.code.Code.{Code}
-use Rattle.record_fields.specs.declared.code.Code.TheVariants.{NoSteps, NoCells, TooMuch}
-use Rattle.network_file.specs.declared.fault.NetFault.{NetFault}
+use Rattle.record_fields.specs.declared.code.Code.TheVariants.{NoHeader, NoSteps, NoCells, TooMuch}
 use Rattle.converted_file.proofs.PlainLines.{AreLinesOf, ArePlainRecords, IsPlainRecord, file_records_of-converted, header_2, header_2-plain, header_3, header_3-plain, lines_in-2, lines_in-3}
 use Rattle.converted_file.proofs.PlainText.{IsPlain}
 use Rattle.network_file.proofs.NetworkFacts.{few_records}
@@ -55,30 +55,26 @@ at_place-ok : {A : Type 0} (place : ℕ) (m : Result A Code) (a : A) → at_plac
 at_place-ok place (Ok a) b made = ap Ok (cc made)
 at_place-ok place (Err code) b made = cc made
 
-completed-alike : (other place : ℕ) (draft : Draft) (net : Network) → completed place draft ≡ Ok net →
-    (completed place (in_format other draft) ≡ Ok (net_in_format other net)) × (net.format ≡ draft.format)
-unfolding completed
-completed-alike other place draft net made =
+whole-alike : (other place : ℕ) (draft : Draft) (net : Network) → at_place place (network_in_all draft) ≡ Ok net →
+    (at_place place (network_in_all (in_format other draft)) ≡ Ok (net_in_format other net)) × (net.format ≡ draft.format)
+whole-alike other place draft net made =
     let (alike, same) = network_in_all-alike other draft net (at_place-ok place (network_in_all draft) net made) in
     (ap (at_place place) alike, same)
 
 -- a record that was taken, and what follows it
-on_taken-ok : (place : ℕ) (m : Result Draft Code) (next : Draft → Result Network NetFault) (net : Network) → on_taken place m next ≡ Ok net
-    → (more : Draft) × ((m ≡ Ok more) × (next more ≡ Ok net))
-on_taken-ok place (Ok more) next net read = (more, (refl, read))
-on_taken-ok place (Err code) next net read = cc read
-
 read_records-first : (place : ℕ) (draft : Draft) (net : Network) (fields : List (List ℕ)) (rest : List (List (List ℕ))) → read_records place draft (fields ∷ rest) ≡ Ok net
     → (more : Draft) × ((take_record draft fields ≡ Ok more) × (read_records (place + 1) more rest ≡ Ok net))
 unfolding read_records
-read_records-first place draft net fields rest read = on_taken-ok place (take_record draft fields) (λ more. read_records (place + 1) more rest) net read
+read_records-first place draft net fields rest read =
+    let (more, (taken, read_rest)) = bind-ok (at_place place (take_record draft fields)) (λ more. read_records (place + 1) more rest) net read in
+    (more, (at_place-ok place (take_record draft fields) more taken, read_rest))
 
 -- records that are read without a fault are plain, and are read alike in a format that has as much
 read_records-alike : (other place : ℕ) (draft : Draft) (net : Network) (rows : List (List (List ℕ))) → HasAsMuch draft.format other → ArePlainNames draft.cells →
     read_records place draft rows ≡ Ok net →
     ArePlainRecords rows × ((read_records place (in_format other draft) rows ≡ Ok (net_in_format other net)) × (net.format ≡ draft.format))
 read_records-alike other place draft net [] has names read =
-    let (alike, same) = completed-alike other place draft net (sym (read_records-none place draft) ∙ read) in
+    let (alike, same) = whole-alike other place draft net (sym (read_records-none place draft) ∙ read) in
     (tt, (read_records-none place (in_format other draft) ∙ alike, same))
 read_records-alike other place draft net (fields ∷ rest) has names read =
     let (more, (taken, read_rest)) = read_records-first place draft net fields rest read in
@@ -101,7 +97,8 @@ unfolding read_file
 read_file-headed [] net read = cc read
 read_file-headed (header ∷ rest) net read = by (format_of header) refl read
   where
-    by : (o : Option ℕ) → format_of header ≡ o → read_headed o rest ≡ Ok net → IsHeaded (header ∷ rest) net
+    by : (o : Option ℕ) → format_of header ≡ o → (at_place 1 (ok_or o NoHeader) >>= (λ format. read_records 2 (empty_draft format) rest)) ≡ Ok net →
+        IsHeaded (header ∷ rest) net
     by None is refused = cc refused
     by (Some format) is headed = record { format = format; header = header; rest = rest; is = refl; named = is; read = headed }
 

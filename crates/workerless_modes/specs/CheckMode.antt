@@ -1,6 +1,6 @@
 -- The counts of a network: why there are none, and their text.
 use Rattle.std.specs.Prelude.{◌≡◌, ℕ, List, [], Option, None, ◌++◌, ◌==◌, if◌then◌else◌, length, codes, nat_le, IsOkAnd}
-use Rattle.signal_plan.specs.Counts.{demand_count, limit_count, signal_count, speed_count, turn_count}
+use Rattle.signal_plan.specs.Counts.{counts_of}
 use Rattle.network_file.specs.Network.{Network}
 use Rattle.network_file.specs.Reading.{network_of}
 use Rattle.line_fields.specs.Fields.{count_field}
@@ -15,9 +15,9 @@ unfoldable pub counts_line : Network → List ℕ
 counts_line net =
     (if net.format == 1 then codes "network" else if net.format == 2 then codes "network2" else codes "network3")
     ++ count_field (length net.cells) ++ count_field (length net.connectors) ++ count_field net.steps
-    ++ count_field (signal_count net.plan) ++ count_field (limit_count net.plan) ++ count_field (demand_count net.plan)
-    ++ (if nat_le 2 net.format then count_field (turn_count net.plan) else [])
-    ++ (if nat_le 3 net.format then count_field (speed_count net.plan) else []) ++ codes "\n"
+    ++ count_field (counts_of net.plan).signals ++ count_field (counts_of net.plan).limits ++ count_field (counts_of net.plan).demands
+    ++ (if nat_le 2 net.format then count_field (counts_of net.plan).turns else [])
+    ++ (if nat_le 3 net.format then count_field (counts_of net.plan).speeds else []) ++ codes "\n"
 
 abbrev pub IsCheckText : (input : List ℕ) → List ℕ → Type 0
 IsCheckText input text = IsOkAnd (network_of input) (λ net. text ≡ counts_line net)

@@ -1,5 +1,5 @@
 ghost use Rattle.std.specs.Prelude.{◌≡◌, ◌≤◌, ◌++◌, ◌==◌, [], codes, if◌then◌else◌, length, nat_le, IfErr, IfOk, None, OnOk};
-ghost use Rattle.signal_plan.specs.Counts.{speed_count, turn_count};
+ghost use Rattle.signal_plan.specs.Counts.{counts_of};
 ghost use Rattle.network_file.specs.declared.limits.TheConstants.{MOST_BYTES};
 ghost use Rattle.line_fields.specs.Fields.{count_field};
 ghost use Rattle.call_ending.specs.Refusing.{IsRefusalOf};
@@ -60,7 +60,7 @@ fn put_name(text: &mut Vec<u8>, net: &Net) -> Result<(), NoMemory>
 
 // The number of turns, which format 1 hasn't.
 fn put_turns(text: &mut Vec<u8>, net: &Net) -> Result<(), NoMemory>
-    ensures { OnOk result (text.new.items ≡ text.old.items ++ (if nat_le 2 net.now.format then count_field (turn_count net.now.plan) else [])) }
+    ensures { OnOk result (text.new.items ≡ text.old.items ++ (if nat_le 2 net.now.format then count_field (counts_of net.now.plan).turns else [])) }
 {
     if net.format >= 2 {
         put_count(text, net.plan.counts().turns as u64)?;
@@ -70,7 +70,7 @@ fn put_turns(text: &mut Vec<u8>, net: &Net) -> Result<(), NoMemory>
 
 // The number of speeds, which format 3 has.
 fn put_speeds(text: &mut Vec<u8>, net: &Net) -> Result<(), NoMemory>
-    ensures { OnOk result (text.new.items ≡ text.old.items ++ (if nat_le 3 net.now.format then count_field (speed_count net.now.plan) else [])) }
+    ensures { OnOk result (text.new.items ≡ text.old.items ++ (if nat_le 3 net.now.format then count_field (counts_of net.now.plan).speeds else [])) }
 {
     if net.format >= 3 {
         put_count(text, net.plan.counts().speeds as u64)?;
