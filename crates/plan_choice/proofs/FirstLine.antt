@@ -1,10 +1,10 @@
 -- The first line of a text.
 use Rattle.std.specs.Prelude.{◌==◌, None, Some, drop, position, take}
-use Rattle.std.specs.List.{position_or_len}
+use Rattle.std.specs.List.{onto_first, position_or_len}
 use Rattle.std.proofs.Common.{◌≡◌, ℕ, suc, ◌+◌, ◌<◌, ◌≤◌, inl, inr, true, false, List, [], ◌∷◌, length, ap, arith, refl, sym, ◌∙◌}
 use Rattle.std.proofs.lemmas.Bool.{cases_Bool, cases_lt, le-ltb, lt-ltb}
 use Rattle.std.proofs.lemmas.List.{drop_all, take_all}
-use Rattle.plan_choice.specs.Pieces.{begins, lines_in}
+use Rattle.plan_choice.specs.Pieces.{lines_in}
 
 -- how many bytes stand before the first line feed
 abbrev pub before_feed : List ℕ → ℕ
@@ -18,7 +18,7 @@ lines-feed : (byte : ℕ) (text : List ℕ) → (byte == 10) ≡ true → lines_
 unfolding lines_in
 lines-feed byte text is = rw is refl
 
-lines-byte : (byte : ℕ) (text : List ℕ) → (byte == 10) ≡ false → lines_in (byte ∷ text) ≡ begins byte (lines_in text)
+lines-byte : (byte : ℕ) (text : List ℕ) → (byte == 10) ≡ false → lines_in (byte ∷ text) ≡ onto_first byte (lines_in text)
 unfolding lines_in
 lines-byte byte text other = rw other refl
 
@@ -32,7 +32,7 @@ lines-found (byte ∷ text) within = elim (cases_Bool (byte == 10)) [
       let further : before_feed (byte ∷ text) ≡ 1 + before_feed text = rw other refl in
       let later : suc (before_feed text + 1) ≡ before_feed (byte ∷ text) + 1 = omega (arith, further) in
       let inside : before_feed text < length text = omega (arith, within, further) in
-      lines-byte byte text other ∙ ap (begins byte) (lines-found text inside) ∙
+      lines-byte byte text other ∙ ap (onto_first byte) (lines-found text inside) ∙
       ap (λ n. take n (byte ∷ text) ∷ lines_in (drop n (byte ∷ text))) later
 ]
 
@@ -42,7 +42,7 @@ lines-alone (byte ∷ []) some none = elim (cases_Bool (byte == 10)) [
   | inl is ↦
       let here : before_feed (byte ∷ []) ≡ 0 = rw is refl in
       absurd (omega (arith, some, none, here))
-  | inr other ↦ lines-byte byte [] other ∙ ap (begins byte) lines-none
+  | inr other ↦ lines-byte byte [] other ∙ ap (onto_first byte) lines-none
 ]
 lines-alone (byte ∷ (next ∷ text)) some none = elim (cases_Bool (byte == 10)) [
   | inl is ↦
@@ -51,7 +51,7 @@ lines-alone (byte ∷ (next ∷ text)) some none = elim (cases_Bool (byte == 10)
   | inr other ↦
       let further : before_feed (byte ∷ (next ∷ text)) ≡ 1 + before_feed (next ∷ text) = rw other refl in
       let outside : length (next ∷ text) ≤ before_feed (next ∷ text) = omega (arith, none, further) in
-      lines-byte byte (next ∷ text) other ∙ ap (begins byte) (lines-alone (next ∷ text) (omega arith) outside)
+      lines-byte byte (next ∷ text) other ∙ ap (onto_first byte) (lines-alone (next ∷ text) (omega arith) outside)
 ]
 
 -- a line feed ends it

@@ -1,10 +1,12 @@
 -- No candidate is longer than the input.
-use Rattle.std.specs.Prelude.{◌==◌, map, slice_index_or, sum_by}
+use Rattle.std.specs.Prelude.{◌==◌, drop, map, slice_index_or, sum_by}
+use Rattle.std.specs.List.{onto_first}
 use Rattle.std.proofs.Common.{◌≡◌, ℕ, ◌+◌, ◌≤◌, inl, inr, List, [], ◌∷◌, ◌++◌, length, ap, arith, refl}
 use Rattle.std.proofs.lemmas.Bool.{cases_Bool, cases_lt}
 use Rattle.std.proofs.lemmas.List.{get_or-map, get_or_past, length-append, length-map}
 use Rattle.std.proofs.lemmas.List.Sums.{get_or-le-sum_by, sum_by-cons}
-use Rattle.plan_choice.specs.Pieces.{begins, candidates_in, files_of, is_separator, leads, lines_in, pieces_in, pieces_of}
+use Rattle.plan_choice.specs.Pieces.{candidates_in, is_separator, lines_in, pieces_in}
+use Rattle.plan_choice.proofs.Cutting.{leads, pieces_of, pieces_of-line, pieces_of-separator}
 
 -- how many bytes stand in some lists
 total : List (List ℕ) → ℕ
@@ -18,16 +20,16 @@ total-more : (first : List ℕ) (lists : List (List ℕ)) → total (first ∷ l
 unfolding total
 total-more first lists = sum_by-cons length first lists
 
-total-begins : (byte : ℕ) (lines : List (List ℕ)) → total (begins byte lines) ≡ total lines + 1
-total-begins byte [] = omega (arith, total-more (byte ∷ []) [], total-none)
-total-begins byte (line ∷ lines) = omega (arith, total-more (byte ∷ line) lines, total-more line lines)
+total-onto_first : (byte : ℕ) (lines : List (List ℕ)) → total (onto_first byte lines) ≡ total lines + 1
+total-onto_first byte [] = omega (arith, total-more (byte ∷ []) [], total-none)
+total-onto_first byte (line ∷ lines) = omega (arith, total-more (byte ∷ line) lines, total-more line lines)
 
 total-lines : (input : List ℕ) → total (lines_in input) ≡ length input
 unfolding lines_in
 total-lines [] = total-none
 total-lines (byte ∷ input) = elim (cases_Bool (byte == 10)) [
   | inl is ↦ rw is (omega (arith, total-more (byte ∷ []) (lines_in input), total-lines input))
-  | inr other ↦ rw other (omega (arith, total-begins byte (lines_in input), total-lines input))
+  | inr other ↦ rw other (omega (arith, total-onto_first byte (lines_in input), total-lines input))
 ]
 
 total-leads : (front : List ℕ) (pieces : List (List ℕ)) → total (leads front pieces) ≡ length front + total pieces
@@ -35,18 +37,17 @@ total-leads front [] = total-more front []
 total-leads front (piece ∷ pieces) = omega (arith, total-more (front ++ piece) pieces, total-more piece pieces, length-append front piece)
 
 total-pieces_of : (lines : List (List ℕ)) → total (pieces_of lines) ≤ total lines
-unfolding pieces_of
 total-pieces_of [] = omega (arith, total-more [] [], total-none)
 total-pieces_of (line ∷ lines) = elim (cases_Bool (is_separator line)) [
-  | inl is ↦ rw is (omega (arith, total-more [] (pieces_of lines), total-more line lines, total-pieces_of lines))
-  | inr other ↦ rw other (omega (arith, total-leads line (pieces_of lines), total-more line lines, total-pieces_of lines))
+  | inl is ↦ omega (arith, ap total (pieces_of-separator line lines is), total-more [] (pieces_of lines), total-more line lines, total-pieces_of lines)
+  | inr other ↦ omega (arith, ap total (pieces_of-line line lines other), total-leads line (pieces_of lines), total-more line lines, total-pieces_of lines)
 ]
 
 total-pieces : (input : List ℕ) → total (pieces_in input) ≤ length input
 unfolding pieces_in
 total-pieces input = omega (arith, total-pieces_of (lines_in input), total-lines input)
 
-file-total : (pieces : List (List ℕ)) (p : ℕ) → length (slice_index_or (files_of pieces) p []) ≤ total pieces
+file-total : (pieces : List (List ℕ)) (p : ℕ) → length (slice_index_or (map (λ plan. slice_index_or pieces 0 [] ++ plan) (drop 1 pieces)) p []) ≤ total pieces
 unfolding total
 file-total [] p = omega arith
 file-total (base ∷ plans) p = elim (cases_lt p (length plans)) [

@@ -15,10 +15,10 @@ mod choice;
 mod delays;
 mod lines;
 mod pieces;
-mod refusal;
+mod plan_count;
 mod separators;
 mod whole_run;
 
 pub use choice::{Choice, choose};
 pub use pieces::Pieces;
-pub use refusal::PiecesRefusal;
+pub use plan_count::PlanCount;

@@ -1,6 +1,6 @@
-use crate::refusal::PiecesRefusal;
+use crate::plan_count::PlanCount;
 use crate::separators::{between_separators, separators, split_once};
-use no_memory::NoMemory;
+use no_memory::{NoMemory, Refused};
 use std::alloc::Global;
 use std::marker::Model;
 
@@ -15,31 +15,33 @@ pub struct Pieces<'a> {
 }
 
 impl<'a> Model for Pieces<'a> {
-    ghost use Rattle.std.specs.Prelude.{◌∷◌, ◌≤◌, List, ℕ, length, map};
+    ghost use Rattle.std.specs.Prelude.{◌++◌, ◌≤◌, List, ℕ, length, map};
 
     ghost Value = { List (List ℕ) };
 
-    ghost view = { λ pieces. pieces.base.now ∷ map (λ plan. plan.now) pieces.plans.items };
+    // The network files of its candidates.
+    ghost view = { λ pieces. map (λ plan. pieces.base.now ++ plan.now) pieces.plans.items };
 
     ghost invariant = { λ pieces. (1 ≤ length pieces.plans.items) × (length pieces.plans.items ≤ 16) };
 }
 
 impl<'a> Pieces<'a> {
-    ghost use Rattle.std.specs.Prelude.{◌≡◌, ◌<◌, ◌≤◌, [], IfErr, IfOk, length, slice_index_or};
-    ghost use Rattle.plan_choice.specs.Pieces.{IsPiecesRefusal, files_of, most_plans, pieces_in};
+    ghost use Rattle.std.specs.Prelude.{◌≡◌, ◌<◌, ◌≤◌, ◌⊎◌, [], IfErr, IfOk, length, slice_index_or};
+    ghost use Rattle.no_memory.specs.Answers.{IfFault};
+    ghost use Rattle.plan_choice.specs.Pieces.{candidates_in};
 
-    /// The pieces of an input.
-    pub fn of(alloc: Global, input: &'a [u8]) -> Result<Pieces<'a>, PiecesRefusal>
-        ensures pieces { IfOk result (λ pieces. pieces ≡ pieces_in input.now) }
-        ensures counted { IfOk result (λ pieces. (1 ≤ length (files_of pieces)) × (length (files_of pieces) ≤ most_plans)) }
-        ensures refusal { IfErr result (IsPiecesRefusal input.now) }
+    /// The pieces of an input, or how many separators it has where these are none or too many.
+    pub fn of(alloc: Global, input: &'a [u8]) -> Result<Pieces<'a>, Refused<PlanCount>>
+        ensures pieces { IfOk result (λ pieces. pieces ≡ candidates_in input.now) }
+        ensures counted { IfOk result (λ pieces. (1 ≤ length pieces) × (length pieces ≤ 16)) }
+        ensures refusal { IfErr result (λ refusal. IfFault refusal (λ count. (count.found ≡ length (candidates_in input.now)) × ((count.found ≡ 0) ⊎ (16 < count.found)))) }
     {
         let Some((base, plans)) = split_once(input) else {
-            return Err(PiecesRefusal::Plans { found: 0 });
+            return Err(Refused::Fault(PlanCount { found: 0 }));
         };
         let found = separators(plans) + 1;
         if found > MOST_PLANS {
-            return Err(PiecesRefusal::Plans { found });
+            return Err(Refused::Fault(PlanCount { found }));
         }
         let plans = between_separators(alloc, plans)?;
         Ok(Pieces { base, plans })
@@ -47,16 +49,16 @@ impl<'a> Pieces<'a> {
 
     /// How many plans there are.
     pub fn count(&self) -> u32
-        ensures count { result ≡ length (files_of self.now) }
-        ensures few { result ≤ most_plans }
+        ensures count { result ≡ length self.now }
+        ensures few { result ≤ 16 }
     {
         self.plans.len() as u32
     }
 
     /// The network file of candidate `p`: the bytes of the base, and behind them those of plan `p`.
     pub fn candidate(&self, alloc: Global, p: u32) -> Result<Vec<u8>, NoMemory>
-        requires { p < length (files_of self.now) }
-        ensures { IfOk result (λ file. file.items ≡ slice_index_or (files_of self.now) p []) }
+        requires { p < length self.now }
+        ensures { IfOk result (λ file. file.items ≡ slice_index_or self.now p []) }
     {
         let mut file = Vec::new(alloc);
         file.extend_from_slice(self.base)?;

@@ -10,11 +10,10 @@ use Rattle.std.proofs.lemmas.List.{take-append-drop}
 use Rattle.std.proofs.lemmas.List.Folds.{prefix_len-append}
 use Rattle.std.proofs.lemmas.Slice.Eq.{bytes_eq-Decides}
 use Rattle.line_fields.specs.Fields.{count_field}
-use Rattle.flow_model.specs.declared.row.Row.{Row}
-use Rattle.saved_run.specs.Content.{HasNumbers, IsRowLine}
-use Rattle.saved_run.specs.Fronts.{Front, behind, counted_line_at, digit_count, field_at, row_counts_at, row_line_at}
+use Rattle.saved_run.specs.Content.{IsRowLine}
+use Rattle.saved_run.specs.Fronts.{Front, behind, counted_line_at, field_at, row_line_at}
 use Rattle.saved_run.specs.Numbers.{number_of}
-use Rattle.saved_run.specs.SavedText.{counted_line, row_counts, row_line}
+use Rattle.saved_run.specs.SavedText.{counted_line, row_line}
 use Rattle.saved_run.specs.declared.row_line.RowLine.{RowLine}
 use Rattle.saved_run.proofs.Numbers.{decimal-number_of, digits_of-decimal, none_is_no_some, number_of-decimal, passed, some_same}
 
@@ -43,7 +42,11 @@ all_pass p (x ∷ xs) all =
     let rest = all_pass p xs parts.1 in
     ap (λ t. cond t (1 + prefix_len p xs) 0) parts.0 ∙ omega (arith, rest)
 
--- the digits at the front, by their places
+-- how many digits stand at the front
+abbrev pub digit_count : List ℕ → ℕ
+digit_count text = prefix_len is_ascii_digit text
+
+-- they, by their places
 pub digit_count_is : (text : List ℕ) (i : ℕ) → i ≤ length text → ((k : ℕ) → k < i → is_ascii_digit (get_or text k 0) ≡ true) → (i < length text → is_ascii_digit (get_or text i 0) ≡ false) →
     digit_count text ≡ i
 digit_count_is [] i within pass stops = omega (arith, within)
@@ -111,85 +114,63 @@ line-counted_line_at word text line reads =
     ∙ sym (three word (count_field count.0.value) (codes "\n") last.0) in
     subst (λ line. (line.value < 2 ^ 64) × (text ≡ word ++ count_field line.value ++ codes "\n" ++ line.rest)) same (printed.0, text_is)
 
-four : (a b c d rest : List ℕ) → a ++ b ++ c ++ d ++ rest ≡ a ++ (b ++ (c ++ (d ++ rest)))
-four a b c d rest = simp append_assoc refl
-
-five : (a b c d e rest : List ℕ) → a ++ b ++ c ++ d ++ e ++ rest ≡ a ++ (b ++ (c ++ (d ++ (e ++ rest))))
-five a b c d e rest = simp append_assoc refl
-
-row_counts_at-counts : (row : Row) (rest : List ℕ) → HasNumbers row → digit_count rest ≡ 0 → row_counts_at (row_counts row ++ rest) ≡ Some (record { value = row; rest = rest })
-unfolding row_counts_at row_counts
-row_counts_at-counts row rest fits ends =
-    let from4 = count_field row.wait ++ rest in
-    let from3 = count_field row.gone ++ from4 in
-    let from2 = count_field row.come ++ from3 in
-    let shape = four (count_field row.n) (count_field row.come) (count_field row.gone) (count_field row.wait) rest in
-    let n : field_at (count_field row.n ++ count_field row.come ++ count_field row.gone ++ count_field row.wait ++ rest) ≡ Some (record { value = row.n; rest = from2 }) =
-    ap field_at shape ∙ field_at-count row.n from2 fits.n refl in
-    let come : field_at from2 ≡ Some (record { value = row.come; rest = from3 }) = field_at-count row.come from3 fits.come refl in
-    let gone : field_at from3 ≡ Some (record { value = row.gone; rest = from4 }) = field_at-count row.gone from4 fits.gone refl in
-    let wait : field_at from4 ≡ Some (record { value = row.wait; rest = rest }) = field_at-count row.wait rest fits.wait ends in
-    rw (n, come, gone, wait) refl
-
-joined_four : (a b c d t t1 t2 t3 rest : List ℕ) → t ≡ a ++ t1 → t1 ≡ b ++ t2 → t2 ≡ c ++ t3 → t3 ≡ d ++ rest → t ≡ a ++ b ++ c ++ d ++ rest
-joined_four a b c d t t1 t2 t3 rest p1 p2 p3 p4 =
-    p1 ∙ ap (λ l. a ++ l) (p2 ∙ ap (λ l. b ++ l) (p3 ∙ ap (λ l. c ++ l) p4)) ∙ sym (four a b c d rest)
-
-counts-row_counts_at : (text : List ℕ) (found : Front Row) → row_counts_at text ≡ Some found → HasNumbers found.value × (text ≡ row_counts found.value ++ found.rest)
-unfolding row_counts_at row_counts
-counts-row_counts_at text found reads =
-    let n = chained (field_at text) _ found reads in
-    let come = chained (field_at n.0.rest) _ found n.2 in
-    let gone = chained (field_at come.0.rest) _ found come.2 in
-    let wait = chained (field_at gone.0.rest) _ found gone.2 in
-    let p1 = count-field_at text n.0 n.1 in
-    let p2 = count-field_at n.0.rest come.0 come.1 in
-    let p3 = count-field_at come.0.rest gone.0 gone.1 in
-    let p4 = count-field_at gone.0.rest wait.0 wait.1 in
-    let value : Row = record { n = n.0.value; come = come.0.value; gone = gone.0.value; wait = wait.0.value } in
-    let same : record { value = value; rest = wait.0.rest } ≡ found = some_same _ _ wait.2 in
-    let text_is : text ≡ row_counts value ++ wait.0.rest =
-    joined_four (count_field n.0.value) (count_field come.0.value) (count_field gone.0.value) (count_field wait.0.value) text n.0.rest come.0.rest gone.0.rest wait.0.rest p1.1 p2.1 p3.1 p4.1 in
-    subst (λ found. HasNumbers found.value × (text ≡ row_counts found.value ++ found.rest)) same (record { n = p1.0; come = p2.0; gone = p3.0; wait = p4.0 }, text_is)
-
-no_digit : (row : Row) (rest : List ℕ) → digit_count (row_counts row ++ rest) ≡ 0
-unfolding row_counts
-no_digit row rest = refl
+eight : (a b c d e f g h rest : List ℕ) → a ++ b ++ c ++ d ++ e ++ f ++ g ++ h ++ rest ≡ a ++ (b ++ (c ++ (d ++ (e ++ (f ++ (g ++ (h ++ rest)))))))
+eight a b c d e f g h rest = simp append_assoc refl
 
 pub row_line_at-line : (line : RowLine) (rest : List ℕ) → IsRowLine line → row_line_at (row_line line ++ rest) ≡ Some (record { value = line; rest = rest })
 unfolding row_line_at row_line
 row_line_at-line line rest fits =
+    let row = line.row in
     let end = codes "\n" ++ rest in
-    let from3 = count_field line.earlier ++ end in
-    let from2 = row_counts line.row ++ from3 in
-    let from1 = count_field line.region ++ from2 in
-    let word : behind (codes "row") (codes "row" ++ count_field line.region ++ row_counts line.row ++ count_field line.earlier ++ codes "\n" ++ rest) ≡ Some from1 =
-    ap (behind (codes "row")) (five (codes "row") (count_field line.region) (row_counts line.row) (count_field line.earlier) (codes "\n") rest) ∙ behind-word (codes "row") from1 in
-    let region : field_at from1 ≡ Some (record { value = line.region; rest = from2 }) = field_at-count line.region from2 fits.region (no_digit line.row from3) in
-    let row : row_counts_at from2 ≡ Some (record { value = line.row; rest = from3 }) = row_counts_at-counts line.row from3 fits.row refl in
-    let earlier : field_at from3 ≡ Some (record { value = line.earlier; rest = end }) = field_at-count line.earlier end fits.earlier refl in
+    let from5 = count_field line.earlier ++ end in
+    let from4 = count_field row.wait ++ from5 in
+    let from3 = count_field row.gone ++ from4 in
+    let from2 = count_field row.come ++ from3 in
+    let from1 = count_field row.n ++ from2 in
+    let fields = count_field line.region ++ from1 in
+    let shape = eight (codes "row") (count_field line.region) (count_field row.n) (count_field row.come) (count_field row.gone) (count_field row.wait) (count_field line.earlier) (codes "\n") rest in
+    let word : behind (codes "row") (codes "row" ++ count_field line.region ++ count_field row.n ++ count_field row.come ++ count_field row.gone ++ count_field row.wait ++ count_field line.earlier
+    ++ codes "\n" ++ rest) ≡ Some fields = ap (behind (codes "row")) shape ∙ behind-word (codes "row") fields in
+    let region : field_at fields ≡ Some (record { value = line.region; rest = from1 }) = field_at-count line.region from1 fits.region refl in
+    let n : field_at from1 ≡ Some (record { value = row.n; rest = from2 }) = field_at-count row.n from2 fits.row.n refl in
+    let come : field_at from2 ≡ Some (record { value = row.come; rest = from3 }) = field_at-count row.come from3 fits.row.come refl in
+    let gone : field_at from3 ≡ Some (record { value = row.gone; rest = from4 }) = field_at-count row.gone from4 fits.row.gone refl in
+    let wait : field_at from4 ≡ Some (record { value = row.wait; rest = from5 }) = field_at-count row.wait from5 fits.row.wait refl in
+    let earlier : field_at from5 ≡ Some (record { value = line.earlier; rest = end }) = field_at-count line.earlier end fits.earlier refl in
     let last : behind (codes "\n") end ≡ Some rest = behind-word (codes "\n") rest in
-    rw (word, region, row, earlier, last) refl
+    rw (word, region, n, come, gone, wait, earlier, last) refl
 
-joined_five : (a b c d e t t1 t2 t3 t4 rest : List ℕ) → t ≡ a ++ t1 → t1 ≡ b ++ t2 → t2 ≡ c ++ t3 → t3 ≡ d ++ t4 → t4 ≡ e ++ rest → t ≡ a ++ b ++ c ++ d ++ e ++ rest
-joined_five a b c d e t t1 t2 t3 t4 rest p1 p2 p3 p4 p5 =
-    p1 ∙ ap (λ l. a ++ l) (p2 ∙ ap (λ l. b ++ l) (p3 ∙ ap (λ l. c ++ l) (p4 ∙ ap (λ l. d ++ l) p5))) ∙ sym (five a b c d e rest)
+joined : (a b c d e f g h t t1 t2 t3 t4 t5 t6 t7 rest : List ℕ) → t ≡ a ++ t1 → t1 ≡ b ++ t2 → t2 ≡ c ++ t3 → t3 ≡ d ++ t4 → t4 ≡ e ++ t5 → t5 ≡ f ++ t6 → t6 ≡ g ++ t7 → t7 ≡ h ++ rest →
+    t ≡ a ++ b ++ c ++ d ++ e ++ f ++ g ++ h ++ rest
+joined a b c d e f g h t t1 t2 t3 t4 t5 t6 t7 rest p p1 p2 p3 p4 p5 p6 p7 = rw (p, p1, p2, p3, p4, p5, p6, p7) (sym (eight a b c d e f g h rest))
 
 pub line-row_line_at : (text : List ℕ) (line : Front RowLine) → row_line_at text ≡ Some line → IsRowLine line.value × (text ≡ row_line line.value ++ line.rest)
 unfolding row_line_at row_line
 line-row_line_at text line reads =
     let word = chained (behind (codes "row") text) _ line reads in
     let region = chained (field_at word.0) _ line word.2 in
-    let row = chained (row_counts_at region.0.rest) _ line region.2 in
-    let earlier = chained (field_at row.0.rest) _ line row.2 in
+    let n = chained (field_at region.0.rest) _ line region.2 in
+    let come = chained (field_at n.0.rest) _ line n.2 in
+    let gone = chained (field_at come.0.rest) _ line come.2 in
+    let wait = chained (field_at gone.0.rest) _ line gone.2 in
+    let earlier = chained (field_at wait.0.rest) _ line wait.2 in
     let last = chained (behind (codes "\n") earlier.0.rest) _ line earlier.2 in
-    let p0 = word-behind (codes "row") text word.0 word.1 in
+    let p = word-behind (codes "row") text word.0 word.1 in
     let p1 = count-field_at word.0 region.0 region.1 in
-    let p2 = counts-row_counts_at region.0.rest row.0 row.1 in
-    let p3 = count-field_at row.0.rest earlier.0 earlier.1 in
-    let p4 = word-behind (codes "\n") earlier.0.rest last.0 last.1 in
-    let value : RowLine = record { region = region.0.value; row = row.0.value; earlier = earlier.0.value } in
+    let p2 = count-field_at region.0.rest n.0 n.1 in
+    let p3 = count-field_at n.0.rest come.0 come.1 in
+    let p4 = count-field_at come.0.rest gone.0 gone.1 in
+    let p5 = count-field_at gone.0.rest wait.0 wait.1 in
+    let p6 = count-field_at wait.0.rest earlier.0 earlier.1 in
+    let p7 = word-behind (codes "\n") earlier.0.rest last.0 last.1 in
+    let value : RowLine = record {
+      region = region.0.value;
+      row = record { n = n.0.value; come = come.0.value; gone = gone.0.value; wait = wait.0.value };
+      earlier = earlier.0.value;
+    } in
     let same : record { value = value; rest = last.0 } ≡ line = some_same _ _ last.2 in
     let text_is : text ≡ row_line value ++ last.0 =
-    joined_five (codes "row") (count_field region.0.value) (row_counts row.0.value) (count_field earlier.0.value) (codes "\n") text word.0 region.0.rest row.0.rest earlier.0.rest last.0 p0 p1.1 p2.1 p3.1 p4 in
-    subst (λ line. IsRowLine line.value × (text ≡ row_line line.value ++ line.rest)) same (record { region = p1.0; row = p2.0; earlier = p3.0 }, text_is)
+    joined (codes "row") (count_field region.0.value) (count_field n.0.value) (count_field come.0.value) (count_field gone.0.value) (count_field wait.0.value) (count_field earlier.0.value) (codes "\n")
+    text word.0 region.0.rest n.0.rest come.0.rest gone.0.rest wait.0.rest earlier.0.rest last.0 p p1.1 p2.1 p3.1 p4.1 p5.1 p6.1 p7 in
+    subst (λ line. IsRowLine line.value × (text ≡ row_line line.value ++ line.rest)) same
+    (record { region = p1.0; row = record { n = p2.0; come = p3.0; gone = p4.0; wait = p5.0 }; earlier = p6.0 }, text_is)

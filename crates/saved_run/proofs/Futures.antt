@@ -25,7 +25,7 @@ use Rattle.snapshot.specs.Rooms.{RoomValue}
 use Rattle.saved_run.specs.Content.{Content}
 use Rattle.saved_run.specs.Futures.{AgreeBelow, IsEdited, IsMoment, edited_content}
 use Rattle.saved_run.specs.Laws.{HasTrueStart, IsTrueShot}
-use Rattle.saved_run.specs.Loading.{CanStart, cutting_by, cutting_in, start_in}
+use Rattle.saved_run.specs.Loading.{CanStart, cutting_in, start_in}
 use Rattle.saved_run.specs.Shown.{content_shown}
 use Rattle.saved_run.proofs.Starts.{held_before, shot-has_true_start}
 
@@ -144,16 +144,16 @@ shown-moment bytes net cut room shot =
     }
 
 -- a cutting of the one is one of the other
-cutting-same : (net other : Network) (content : Content) → other.cells ≡ net.cells → cutting_in other content ≡ cutting_in net content
-unfolding cutting_by cut_of
-cutting-same net other content cells = let long : length other.cells ≡ length net.cells = ap length cells in rw long refl
+cutting-same : (net other : Network) (content : Content) (edited : List ℕ) → other.cells ≡ net.cells → cutting_in other (edited_content content edited) ≡ cutting_in net content
+unfolding cutting_in cut_of
+cutting-same net other content edited cells = let long : length other.cells ≡ length net.cells = ap length cells in rw long refl
 
 -- so what is saved of it, with the other network, has a true start
 pub edited-has_true_start : (content : Content) (net other : Network) (u : ℕ) (cut edited : List ℕ) → IsEdited content net other u cut edited → HasTrueStart (edited_content content edited) other cut
 edited-has_true_start content net other u cut edited is =
     let same = moment-same net other u is.agree cut (start_in content) is.by_then is.in_time is.moment in
     record {
-      cut_so = record { network = is.reads; cutting = cutting-same net other content is.agree.cells ∙ is.cutting };
+      cut_so = record { network = is.reads; cutting = cutting-same net other content edited is.agree.cells ∙ is.cutting };
       can_start = moment-starts other cut (start_in content) is.sound same;
       true_start = moment-true other cut (start_in content) same;
     }

@@ -1,10 +1,11 @@
 -- The step lines and the row lines of a text.
-use Rattle.std.specs.Prelude.{All, codes, flat_map}
+use Rattle.std.specs.Prelude.{All, codes, flat_map, option_map}
+use Rattle.std.specs.Option.{option_or}
 use Rattle.std.proofs.Common.{◌≡◌, ℕ, zero, suc, ◌<◌, ◌^◌, List, [], ◌∷◌, ◌++◌, length, Option, Some, None, refl, sym, ap, subst, ◌∙◌, arith, append_assoc}
 use Rattle.std.proofs.lemmas.List.Elements.{All-cons, All-head, All-tail}
 use Rattle.saved_run.specs.Content.{IsRowLine}
 use Rattle.saved_run.specs.Fronts.{Front, behind, counted_line_at, row_line_at}
-use Rattle.saved_run.specs.Reading.{row_lines_at, rows_or_end, step_lines_at}
+use Rattle.saved_run.specs.Reading.{row_lines_at, step_lines_at}
 use Rattle.saved_run.specs.SavedText.{counted_line, row_line}
 use Rattle.saved_run.specs.declared.row_line.RowLine.{RowLine}
 use Rattle.saved_run.proofs.Fronts.{behind-word, chained, counted_line_at-line, line-counted_line_at, line-row_line_at, row_line_at-line, word-behind}
@@ -75,7 +76,7 @@ ended : (text network : List ℕ) (found : Front (List RowLine)) → behind (cod
 ended text network found end same = subst (AreRowLines text) same (record { fit = λ k d within. absurd (omega (arith, within)); lines = word-behind (codes "net\n") text network end })
 
 -- the line `net`, or a row line
-one_of : (end : Option (List ℕ)) (text : List ℕ) (rows : Option (Front (List RowLine))) (found : Front (List RowLine)) → behind (codes "net\n") text ≡ end → rows_or_end end rows ≡ Some found →
+one_of : (end : Option (List ℕ)) (text : List ℕ) (rows : Option (Front (List RowLine))) (found : Front (List RowLine)) → behind (codes "net\n") text ≡ end → option_or (option_map (λ network. record { value = []; rest = network }) end) rows ≡ Some found →
     (rows ≡ Some found → AreRowLines text found) → AreRowLines text found
 one_of (Some network) text rows found is reads other = ended text network found is (some_same _ found reads)
 one_of None text rows found is reads other = other reads

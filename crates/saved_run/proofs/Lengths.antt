@@ -1,27 +1,17 @@
 -- How long the lines of a saved text are, and the whole of it.
 use Rattle.std.specs.Prelude.{All, codes, flat_map}
 use Rattle.std.specs.Fmt.{decimal}
-use Rattle.std.proofs.Common.{◌≡◌, ℕ, ◌+◌, ◌*◌, ◌<◌, ◌≤◌, ◌^◌, List, ◌++◌, length, length-append, refl, arith}
+use Rattle.std.proofs.Common.{◌≡◌, ℕ, ◌*◌, ◌<◌, ◌≤◌, ◌^◌, List, length, length-append, refl, arith}
 use Rattle.std.proofs.lemmas.Fmt.{length-decimal-le}
 use Rattle.std.proofs.lemmas.List.Concat.{length-flat_map}
 use Rattle.std.proofs.lemmas.List.Sums.{sum_by-le}
 use Rattle.line_fields.specs.Fields.{count_field}
 use Rattle.network_file.specs.Formats.{most_records}
 use Rattle.network_file.specs.Limits.{most_regions}
-use Rattle.flow_model.specs.declared.row.Row.{Row}
-use Rattle.saved_run.specs.Content.{Content, HasNumbers, IsContent, IsRowLine}
+use Rattle.saved_run.specs.Content.{Content, IsContent, IsRowLine}
 use Rattle.saved_run.specs.SavedLength.{most_row_line, most_saved, most_step_line}
-use Rattle.saved_run.specs.SavedText.{counted_line, row_counts, row_line, saved_text}
+use Rattle.saved_run.specs.SavedText.{counted_line, row_line, saved_text}
 use Rattle.saved_run.specs.declared.row_line.RowLine.{RowLine}
-
-length-three : (a b c : List ℕ) → length (a ++ b ++ c) ≡ length a + length b + length c
-length-three a b c = omega (arith, length-append (a ++ b) c, length-append a b)
-
-length-four : (a b c d : List ℕ) → length (a ++ b ++ c ++ d) ≡ length a + length b + length c + length d
-length-four a b c d = omega (arith, length-append (a ++ b ++ c) d, length-three a b c)
-
-length-five : (a b c d e : List ℕ) → length (a ++ b ++ c ++ d ++ e) ≡ length a + length b + length c + length d + length e
-length-five a b c d e = omega (arith, length-append (a ++ b ++ c ++ d) e, length-four a b c d)
 
 -- a comma and at most 20 digits
 count_field-short : (n : ℕ) → n < 2 ^ 64 → length (count_field n) ≤ 21
@@ -33,33 +23,24 @@ count_field-few n small = omega (arith, length-append (codes ",") (decimal n), l
 
 first_line-short : (count : ℕ) → count ≤ most_regions → length (counted_line (codes "saved,1") count) ≤ 12
 unfolding counted_line
-first_line-short count few = omega (arith, length-three (codes "saved,1") (count_field count) (codes "\n"), count_field-few count (omega (arith, few)))
+first_line-short count few = simp length-append (omega (arith, count_field-few count (omega (arith, few))))
 
 step_line-short : (step : ℕ) → step < 2 ^ 64 → length (counted_line (codes "step") step) ≤ most_step_line
 unfolding counted_line
-step_line-short step small = omega (arith, length-three (codes "step") (count_field step) (codes "\n"), count_field-short step small)
-
-row_counts-short : (row : Row) → HasNumbers row → length (row_counts row) ≤ 84
-unfolding row_counts
-row_counts-short row fits =
-    omega (
-      arith,
-      length-four (count_field row.n) (count_field row.come) (count_field row.gone) (count_field row.wait),
-      count_field-short row.n fits.n,
-      count_field-short row.come fits.come,
-      count_field-short row.gone fits.gone,
-      count_field-short row.wait fits.wait,
-    )
+step_line-short step small = simp length-append (omega (arith, count_field-short step small))
 
 row_line-short : (line : RowLine) → IsRowLine line → line.region < most_regions → length (row_line line) ≤ most_row_line
 unfolding row_line
-row_line-short line fits one =
+row_line-short line fits one = simp length-append (
     omega (
       arith,
-      length-five (codes "row") (count_field line.region) (row_counts line.row) (count_field line.earlier) (codes "\n"),
       count_field-few line.region (omega (arith, one)),
-      row_counts-short line.row fits.row,
+      count_field-short line.row.n fits.row.n,
+      count_field-short line.row.come fits.row.come,
+      count_field-short line.row.gone fits.row.gone,
+      count_field-short line.row.wait fits.row.wait,
       count_field-short line.earlier fits.earlier,
+    )
     )
 
 -- so many lines
@@ -71,18 +52,15 @@ pub saved_text-short : (content : Content) → IsContent content → length cont
 unfolding saved_text
 saved_text-short content is few regions =
     let count = length content.steps in
-    let steps = flat_map (counted_line (codes "step")) content.steps in
-    let rows = flat_map row_line content.rows in
-    omega (
+    simp length-append (omega (
       arith,
-      length-five (counted_line (codes "saved,1") count) steps rows (codes "net\n") content.network,
       first_line-short count is.few,
       lines-short (counted_line (codes "step")) most_step_line content.steps (λ k d within. step_line-short _ (is.steps k d within)),
       lines-short row_line most_row_line content.rows (λ k d within. row_line-short _ (is.rows k d within) (regions k d within)),
       is.few,
       few,
       is.network,
-    )
+    ))
 
 pub most_saved-is : most_saved ≡ 39_390_544
 most_saved-is = refl

@@ -1,8 +1,8 @@
 -- The content of a shot from a true start has a true start.
-use Rattle.std.specs.Prelude.{◌==◌, map, slice_index}
+use Rattle.std.specs.Prelude.{map, slice_index}
 use Rattle.std.specs.List.{range_with_len}
-use Rattle.std.proofs.Common.{◌≡◌, ◌⊎◌, ℕ, ◌+◌, ◌<◌, ◌≤◌, inl, inr, cond, true, List, length, get_or, Some, None, Ok, refl, sym, ap, subst, ◌∙◌, arith}
-use Rattle.std.proofs.lemmas.Bool.{cases_lt, eq-eqb}
+use Rattle.std.proofs.Common.{◌≡◌, ◌⊎◌, ℕ, ◌+◌, ◌<◌, ◌≤◌, inl, inr, List, length, get_or, Some, refl, sym, ap, subst, ◌∙◌, arith}
+use Rattle.std.proofs.lemmas.Bool.{cases_lt}
 use Rattle.std.proofs.lemmas.List.FromFn.{fill_by_all, get_or-map-range_with_len, length-map-range_with_len}
 use Rattle.std.proofs.lemmas.Simd.{map-map}
 use Rattle.network_file.specs.Cutting.{IsCutting}
@@ -19,9 +19,10 @@ use Rattle.region_step.specs.Start.{Fits, IsCellInBounds, IsTrueStart, StartList
 use Rattle.region_step.proofs.Grids.{are_the_recurrences, grid_before-next, grid_before-start, grid_held-earlier, grid_held-started, held_in_bounds, stay_in_bounds}
 use Rattle.snapshot.specs.Rooms.{RoomValue}
 use Rattle.saved_run.specs.Laws.{HasTrueStart, IsTrueShot}
-use Rattle.saved_run.specs.Loading.{cutting_by, cutting_in, of_regions, regions_in, start_in}
+use Rattle.saved_run.specs.Loading.{cutting_in, start_in}
 use Rattle.saved_run.specs.Shown.{content_shown, line_shown}
 use Rattle.saved_run.specs.declared.row_line.RowLine.{RowLine}
+use Rattle.saved_run.proofs.Cuttings.{cutting_in-Ok, regions_in}
 
 past_or_before : (s t : ℕ) → (s ≤ t) ⊎ (t < s)
 past_or_before s t = elim (cases_lt t s) [ inl before ↦ inr before | inr other ↦ inl (omega (arith, other)) ]
@@ -45,11 +46,8 @@ regions-shown cut room network =
 
 cutting-shown : (net : Network) (cut : List ℕ) (room : RoomValue) (network : List ℕ) → IsCutting (length net.cells) cut → length room.steps ≡ region_count cut →
     cutting_in net (content_shown cut room network) ≡ Some cut
-unfolding cutting_by
 cutting-shown net cut room network cutting one_each =
-    let own : cut_of net (regions_in (content_shown cut room network).rows) ≡ Ok cut = ap (cut_of net) (regions-shown cut room network) ∙ cut_of-IsCutting net cut cutting in
-    let counted : (region_count cut == length room.steps) ≡ true = eq-eqb _ _ (sym one_each) in
-    ap (of_regions (length room.steps)) own ∙ ap (λ t. cond t (Some cut) None) counted
+    cutting_in-Ok net (content_shown cut room network) cut (ap (cut_of net) (regions-shown cut room network) ∙ cut_of-IsCutting net cut cutting) (sym one_each)
 
 module _ (bytes : List ℕ) (net : Network) (cut : List ℕ) (start : StartLists) (room : RoomValue) (shot : IsTrueShot bytes net cut start room) where
   abbrev pub shown : StartLists

@@ -1,12 +1,12 @@
 -- A saved text is read as its content, and what is read as a content is its saved text.
 use Rattle.std.specs.Prelude.{codes, flat_map, nat_le, nat_lt}
-use Rattle.std.proofs.Common.{◌≡◌, ℕ, ◌+◌, ◌<◌, ◌≤◌, Bool, true, false, cond, List, [], ◌∷◌, ◌++◌, length, Option, Some, None, refl, sym, ap, subst, ◌∙◌, arith, append_assoc, length-append}
+use Rattle.std.proofs.Common.{◌≡◌, ℕ, ◌+◌, ◌<◌, ◌≤◌, ◌&&◌, Bool, true, false, cond, List, [], ◌∷◌, ◌++◌, length, Option, Some, None, refl, sym, ap, subst, ◌∙◌, arith, append_assoc, length-append}
 use Rattle.std.proofs.lemmas.Bool.{and_parts}
 use Rattle.std.proofs.lemmas.Bool.Decides.{nat_tests}
 use Rattle.network_file.specs.Limits.{most_bytes, most_regions}
 use Rattle.saved_run.specs.Content.{Content, IsContent}
 use Rattle.saved_run.specs.Fronts.{counted_line_at}
-use Rattle.saved_run.specs.Reading.{IsSavedText, content_of, is_region_count, row_lines_at, step_lines_at}
+use Rattle.saved_run.specs.Reading.{IsSavedText, content_of, row_lines_at, step_lines_at}
 use Rattle.saved_run.specs.SavedText.{counted_line, row_line, saved_text}
 use Rattle.saved_run.specs.declared.row_line.RowLine.{RowLine}
 use Rattle.saved_run.proofs.Fronts.{chained, counted_line_at-line, line-counted_line_at}
@@ -37,7 +37,7 @@ content_of-saved_text content is =
     let regions : counted_line_at (codes "saved,1") (counted_line (codes "saved,1") count ++ flat_map (counted_line (codes "step")) content.steps ++ flat_map row_line content.rows ++ codes "net\n" ++ content.network)
     ≡ Some (record { value = count; rest = steps_text }) =
     ap (counted_line_at (codes "saved,1")) whole ∙ counted_line_at-line (codes "saved,1") count steps_text (omega (arith, is.few)) in
-    let counted : is_region_count count ≡ true = grind (arith, nat_tests, is.some, is.few) in
+    let counted : (nat_lt 0 count && nat_le count most_regions) ≡ true = grind (arith, nat_tests, is.some, is.few) in
     let steps : step_lines_at count steps_text ≡ Some (record { value = content.steps; rest = rows_text }) = step_lines_at-lines content.steps rows_text is.steps in
     let few : length content.rows < length rows_text = omega (arith, length-lines content.rows end) in
     let rows : row_lines_at (length rows_text) rows_text ≡ Some (record { value = content.rows; rest = content.network }) = row_lines_at-lines (length rows_text) content.rows content.network few is.rows in
@@ -52,11 +52,11 @@ pub saved_text-content_of : (bytes : List ℕ) (content : Content) → content_o
 unfolding content_of saved_text
 saved_text-content_of bytes content reads =
     let regions = chained (counted_line_at (codes "saved,1") bytes) _ content reads in
-    let steps = chained (cond (is_region_count regions.0.value) (step_lines_at regions.0.value regions.0.rest) None) _ content regions.2 in
+    let steps = chained (cond (nat_lt 0 regions.0.value && nat_le regions.0.value most_regions) (step_lines_at regions.0.value regions.0.rest) None) _ content regions.2 in
     let rows = chained (row_lines_at (length steps.0.rest) steps.0.rest) _ content steps.2 in
     let last = passed (nat_le (length rows.0.rest) most_bytes) (record { steps = steps.0.value; rows = rows.0.value; network = rows.0.rest }) content rows.2 in
     let first = line-counted_line_at (codes "saved,1") bytes regions.0 regions.1 in
-    let test = counted (is_region_count regions.0.value) (step_lines_at regions.0.value regions.0.rest) steps.0 steps.1 in
+    let test = counted (nat_lt 0 regions.0.value && nat_le regions.0.value most_regions) (step_lines_at regions.0.value regions.0.rest) steps.0 steps.1 in
     let step_lines = lines-step_lines_at regions.0.value regions.0.rest steps.0 test.1 in
     let row_lines = lines-row_lines_at (length steps.0.rest) steps.0.rest rows.0 rows.1 in
     let bounds = and_parts (nat_lt 0 regions.0.value) (nat_le regions.0.value most_regions) test.0 in

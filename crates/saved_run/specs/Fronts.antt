@@ -2,7 +2,6 @@
 use Rattle.std.specs.Prelude.{ℕ, List, bytes_eq, codes, drop, length, take, Option, Some, None, if◌then◌else◌, option_and_then}
 use Rattle.std.specs.Char.{is_ascii_digit}
 use Rattle.std.specs.List.{prefix_len}
-use Rattle.flow_model.specs.declared.row.Row.{Row}
 use Rattle.saved_run.specs.Numbers.{number_of}
 use Rattle.saved_run.specs.declared.row_line.RowLine.{RowLine}
 
@@ -19,16 +18,12 @@ found >>= next = option_and_then next found
 unfoldable pub behind : (word : List ℕ) → List ℕ → Option (List ℕ)
 behind word text = if bytes_eq (take (length word) text) word then Some (drop (length word) text) else None
 
--- how many digits stand at the front
-abbrev pub digit_count : List ℕ → ℕ
-digit_count text = prefix_len is_ascii_digit text
-
--- a comma and a number
+-- a comma and a number: all the digits that follow
 unfoldable pub field_at : List ℕ → Option (Front ℕ)
 field_at text = do
   field ← behind (codes ",") text
-  number ← number_of (take (digit_count field) field)
-  Some (record { value = number; rest = drop (digit_count field) field })
+  number ← number_of (take (prefix_len is_ascii_digit field) field)
+  Some (record { value = number; rest = drop (prefix_len is_ascii_digit field) field })
 
 -- a line of a word and a count
 unfoldable pub counted_line_at : (word : List ℕ) → List ℕ → Option (Front ℕ)
@@ -38,21 +33,22 @@ counted_line_at word text = do
   rest ← behind (codes "\n") count.rest
   Some (record { value = count.value; rest = rest })
 
--- the four fields of a row
-unfoldable pub row_counts_at : List ℕ → Option (Front Row)
-row_counts_at text = do
-  n ← field_at text
-  come ← field_at n.rest
-  gone ← field_at come.rest
-  wait ← field_at gone.rest
-  Some (record { value = record { n = n.value; come = come.value; gone = gone.value; wait = wait.value }; rest = wait.rest })
-
 -- a row line
 unfoldable pub row_line_at : List ℕ → Option (Front RowLine)
 row_line_at text = do
   fields ← behind (codes "row") text
   region ← field_at fields
-  row ← row_counts_at region.rest
-  earlier ← field_at row.rest
+  n ← field_at region.rest
+  come ← field_at n.rest
+  gone ← field_at come.rest
+  wait ← field_at gone.rest
+  earlier ← field_at wait.rest
   rest ← behind (codes "\n") earlier.rest
-  Some (record { value = record { region = region.value; row = row.value; earlier = earlier.value }; rest = rest })
+  Some (record {
+    value = record {
+      region = region.value;
+      row = record { n = n.value; come = come.value; gone = gone.value; wait = wait.value };
+      earlier = earlier.value;
+    };
+    rest = rest;
+  })

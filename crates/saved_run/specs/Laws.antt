@@ -1,5 +1,5 @@
 -- A run that goes on from a saved snapshot.
-use Rattle.std.specs.Prelude.{◌≡◌, ℕ, List, Option, Some, None, Ok, length}
+use Rattle.std.specs.Prelude.{◌≡◌, ℕ, List, Ok, length}
 use Rattle.network_file.specs.Cutting.{IsCutting}
 use Rattle.network_file.specs.Network.{IsNetwork, Network}
 use Rattle.network_file.specs.Reading.{network_of}
@@ -25,8 +25,3 @@ pub record HasTrueStart (content : Content) (net : Network) (cut : List ℕ) : T
   pub cut_so : IsCutSo content net cut
   pub can_start : CanStart net cut (start_in content)
   pub true_start : IsTrueStart net cut (start_in content)
-
--- a text was read, and its content has a true start
-abbrev pub BeginsTrue : Option Content → Network → (cut : List ℕ) → Type 0
-BeginsTrue None net cut = ⊥
-BeginsTrue (Some content) net cut = HasTrueStart content net cut

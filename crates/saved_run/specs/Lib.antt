@@ -6,7 +6,6 @@ pub mod Fronts
 pub mod Reading
 pub mod Heads
 pub mod Shown
-pub mod Charting
 pub mod Loading
 pub mod Laws
 pub mod Futures

@@ -1,36 +1,23 @@
 -- What a saved text is to be gone on from, or its first fault.
-use Rattle.std.specs.Prelude.{◌≡◌, ⊤, ℕ, ◌==◌, List, Option, Some, None, Result, Ok, Err, if◌then◌else◌, length, map}
+use Rattle.std.specs.Prelude.{◌≡◌, ℕ, ◌==◌, List, Option, Some, None, Ok, Err, if◌then◌else◌, length, map}
+use Rattle.std.specs.Result.{result_ok}
 use Rattle.network_file.specs.Network.{Network}
 use Rattle.network_file.specs.Reading.{network_of}
 use Rattle.region_cut.specs.Chart.{ChartLists, chart_of}
 use Rattle.region_cut.specs.CutFaults.{cut_of}
 use Rattle.region_cut.specs.Cuttings.{region_count}
 use Rattle.region_cut.specs.LawfulSteps.{AreLawful}
-use Rattle.region_cut.specs.declared.fault.CutFault.{CutFault}
 use Rattle.region_step.specs.Start.{Fits, StartLists}
 use Rattle.saved_run.specs.Content.{Content}
+use Rattle.saved_run.specs.Fronts.{◌>>=◌}
 use Rattle.saved_run.specs.declared.fault.LoadFault.{LoadFault}
 use Rattle.saved_run.specs.declared.fault.LoadFault.TheVariants.{Spelling, Network as OfNetwork, Cutting, Start}
-use Rattle.saved_run.specs.declared.fault.LoadRefusal.{LoadRefusal}
-use Rattle.saved_run.specs.declared.fault.LoadRefusal.TheVariants.{Fault, NoMemory}
-use Rattle.saved_run.specs.declared.row_line.RowLine.{RowLine}
 
--- the region of each cell
-abbrev pub regions_in : List RowLine → List ℕ
-regions_in rows = map (λ line. line.region) rows
-
--- a cutting, where it has so many regions
-abbrev pub of_regions : (count : ℕ) → Result (List ℕ) CutFault → Option (List ℕ)
-of_regions count (Err fault) = None
-of_regions count (Ok cut) = if region_count cut == count then Some cut else None
-
--- the cutting of the network that row lines give, where they give one with so many regions
-unfoldable pub cutting_by : Network → (count : ℕ) → List RowLine → Option (List ℕ)
-cutting_by net count rows = of_regions count (cut_of net (regions_in rows))
-
--- the cutting of a content has a step for each region
-abbrev pub cutting_in : Network → Content → Option (List ℕ)
-cutting_in net content = cutting_by net (length content.steps) content.rows
+-- the cutting that the row lines of a content give, where it has a step for each region
+unfoldable pub cutting_in : Network → Content → Option (List ℕ)
+cutting_in net content = do
+  cut ← result_ok (cut_of net (map (λ line. line.region) content.rows))
+  if region_count cut == length content.steps then Some cut else None
 
 -- where the regions start
 abbrev pub start_in : Content → StartLists
@@ -57,11 +44,6 @@ pub record GoesOn (content : Content) (net : Network) (chart : ChartLists) (star
   pub begins : start ≡ start_in content
   pub can_start : CanStart net chart.cut start
 
--- a text was read, and a run goes on from its content
-abbrev pub IsLoaded : Option Content → Network → ChartLists → StartLists → Type 0
-IsLoaded None net chart start = ⊥
-IsLoaded (Some content) net chart start = GoesOn content net chart start
-
 -- the first fault of a content
 abbrev pub IsContentFault : Content → LoadFault → Type 0
 IsContentFault content Spelling = ⊥
@@ -73,13 +55,3 @@ IsContentFault content Start = (net : Network) × (cut : List ℕ) × IsCutSo co
 abbrev pub IsLoadFault : Option Content → LoadFault → Type 0
 IsLoadFault None fault = fault ≡ Spelling
 IsLoadFault (Some content) fault = IsContentFault content fault
-
--- the refusal names the first fault; that memory was refused says nothing of the text
-abbrev pub IsLoadRefusal : Option Content → LoadRefusal → Type 0
-IsLoadRefusal found (Fault fault) = IsLoadFault found fault
-IsLoadRefusal found NoMemory = ⊤
-
--- the refusal names the first fault of a content; that memory was refused says nothing of it
-abbrev pub IsContentRefusal : Content → LoadRefusal → Type 0
-IsContentRefusal content (Fault fault) = IsContentFault content fault
-IsContentRefusal content NoMemory = ⊤

@@ -1,7 +1,6 @@
 -- A saved text: how a content is written.
 use Rattle.std.specs.Prelude.{ℕ, List, ◌++◌, codes, flat_map, length}
 use Rattle.line_fields.specs.Fields.{count_field}
-use Rattle.flow_model.specs.declared.row.Row.{Row}
 use Rattle.saved_run.specs.Content.{Content}
 use Rattle.saved_run.specs.declared.row_line.RowLine.{RowLine}
 
@@ -9,13 +8,11 @@ use Rattle.saved_run.specs.declared.row_line.RowLine.{RowLine}
 unfoldable pub counted_line : (word : List ℕ) → (count : ℕ) → List ℕ
 counted_line word count = word ++ count_field count ++ codes "\n"
 
--- the fields `n,come,gone,wait` of a row, in parts
-unfoldable pub row_counts : Row → List ℕ
-row_counts row = count_field row.n ++ count_field row.come ++ count_field row.gone ++ count_field row.wait
-
 -- `row,region,n,come,gone,wait,earlier`
 unfoldable pub row_line : RowLine → List ℕ
-row_line line = codes "row" ++ count_field line.region ++ row_counts line.row ++ count_field line.earlier ++ codes "\n"
+row_line line =
+    codes "row" ++ count_field line.region ++ count_field line.row.n ++ count_field line.row.come ++ count_field line.row.gone
+    ++ count_field line.row.wait ++ count_field line.earlier ++ codes "\n"
 
 -- the number of regions, the step of each, the row of each cell, and behind the line `net` the network
 unfoldable pub saved_text : Content → List ℕ

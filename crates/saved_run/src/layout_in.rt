@@ -1,14 +1,17 @@
-ghost use Rattle.std.specs.Prelude.{◌≡◌, Ok, Some, None, IfErr, IfOk, MatchOption, false, true, length, map};
-ghost use Rattle.region_cut.specs.CutFaults.{cut_of};
-ghost use Rattle.saved_run.specs.Charting.{IsChartRefusal, IsCuttingRefusal, are_regions};
-ghost use Rattle.saved_run.specs.Loading.{cutting_by};
+ghost use Rattle.std.specs.Prelude.{◌≡◌, ℕ, List, Some, None, IfErr, IfOk, MatchOption, false, length, map, nat_lt};
+ghost use Rattle.std.specs.List.{list_all};
+ghost use Rattle.no_memory.specs.Answers.{IfFault};
+ghost use Rattle.network_file.specs.declared.limits.TheConstants.{MOST_REGIONS};
+ghost use Rattle.saved_run.specs.Heads.{content_in};
+ghost use Rattle.saved_run.specs.Loading.{cutting_in};
+ghost use Rattle.saved_run.specs.declared.fault.LoadFault.TheVariants.{Cutting};
 
-use crate::fault::{LoadFault, LoadRefusal};
+use crate::fault::LoadFault;
 use crate::row_line::RowLine;
 use crate::saved_head::SavedHead;
 use network_file::{MOST_REGIONS, Net};
-use no_memory::NoMemory;
-use region_cut::{Cut, CutRefusal, Layout};
+use no_memory::{NoMemory, Refused};
+use region_cut::{Cut, Layout};
 use std::alloc::Global;
 
 /// A network that is cut as the row lines of a content say.
@@ -16,39 +19,31 @@ pub(crate) fn layout_in<'n>(
     alloc: Global,
     net: &'n Net,
     head: &SavedHead,
-) -> Result<Layout<'n>, LoadRefusal>
+) -> Result<Layout<'n>, Refused<LoadFault>>
     ensures network { IfOk result (λ layout. layout.net ≡ net.now) }
-    ensures cutting { IfOk result (λ layout. cutting_by net.now (length head.now.steps.items) head.now.rows.items ≡ Some layout.chart.cut) }
-    ensures refusal { IfErr result (λ refusal. IsChartRefusal refusal (cutting_by net.now (length head.now.steps.items) head.now.rows.items)) }
+    ensures cutting { IfOk result (λ layout. (network : List ℕ) → cutting_in net.now (content_in head.now network) ≡ Some layout.chart.cut) }
+    ensures refusal { IfErr result (λ refusal. IfFault refusal (λ fault. (fault ≡ Cutting) × ((network : List ℕ) → cutting_in net.now (content_in head.now network) ≡ None))) }
 {
     let Some(regions) = region_numbers(alloc, &head.rows)? else {
-        return Err(LoadRefusal::Fault(LoadFault::Cutting));
+        return Err(Refused::Fault(LoadFault::Cutting));
     };
-    let layout = Layout::new(alloc, net, cut_by(alloc, net, &regions)?)?;
+    let cut = match Cut::of(alloc, net, &regions) {
+        Ok(cut) => cut,
+        Err(Refused::Fault(_)) => return Err(Refused::Fault(LoadFault::Cutting)),
+        Err(Refused::NoMemory) => return Err(Refused::NoMemory),
+    };
+    let layout = Layout::new(alloc, net, cut)?;
     if layout.regions() as usize == head.steps.len() {
         Ok(layout)
     } else {
-        Err(LoadRefusal::Fault(LoadFault::Cutting))
-    }
-}
-
-// The cutting that a list of region numbers is.
-fn cut_by(alloc: Global, net: &Net, regions: &[u32]) -> Result<Cut, LoadRefusal>
-    ensures cut { IfOk result (λ cut. cut_of net.now regions.now ≡ Ok cut) }
-    ensures one_each { IfOk result (λ cut. length cut ≡ length net.now.cells) }
-    ensures refusal { IfErr result (λ refusal. IsCuttingRefusal refusal (cut_of net.now regions.now)) }
-{
-    match Cut::of(alloc, net, regions) {
-        Ok(cut) => Ok(cut),
-        Err(CutRefusal::Fault(_)) => Err(LoadRefusal::Fault(LoadFault::Cutting)),
-        Err(CutRefusal::NoMemory) => Err(LoadRefusal::NoMemory),
+        Err(Refused::Fault(LoadFault::Cutting))
     }
 }
 
 // The region number of each row line, where each is one that a region may have.
 fn region_numbers(alloc: Global, rows: &[RowLine]) -> Result<Option<Vec<u32>>, NoMemory>
-    ensures { IfOk result (λ found. MatchOption found (are_regions (map (λ line. line.region) rows.now) ≡ false)
-        (λ regions. (regions.items ≡ map (λ line. line.region) rows.now) × (are_regions regions.items ≡ true))) }
+    ensures { IfOk result (λ found. MatchOption found (list_all (λ region. nat_lt region MOST_REGIONS) (map (λ line. line.region) rows.now) ≡ false)
+        (λ regions. regions.items ≡ map (λ line. line.region) rows.now)) }
 {
     let mut regions = Vec::new(alloc);
     for line in rows {

@@ -20,7 +20,7 @@ mod saved_lines;
 mod saving;
 mod start_in;
 
-pub use fault::{LoadFault, LoadRefusal};
+pub use fault::LoadFault;
 pub use loading::load;
 pub use row_line::RowLine;
 pub use saved::Saved;

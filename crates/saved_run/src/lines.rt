@@ -1,5 +1,5 @@
 ghost use Rattle.std.specs.Prelude.{◌≡◌, Some, None, MatchOption};
-ghost use Rattle.saved_run.specs.Fronts.{behind, counted_line_at, field_at, row_counts_at, row_line_at};
+ghost use Rattle.saved_run.specs.Fronts.{behind, counted_line_at, field_at, row_line_at};
 
 use crate::number::{digits, number};
 use crate::row_line::RowLine;
@@ -37,25 +37,6 @@ pub(crate) fn counted_line<'a>(word: &[u8], text: &'a [u8]) -> Option<(u64, &'a 
     Some((count, text))
 }
 
-/// The four fields of a row at the front of a text, and what follows them.
-#[tactic(auto, unfolding(crate::specs::Fronts::row_counts_at))]
-fn row_counts(text: &[u8]) -> Option<(Row, &[u8])>
-    ensures { MatchOption result (row_counts_at text.now ≡ None)
-        (λ found. row_counts_at text.now ≡ Some (record { value = found.0; rest = found.1.now })) }
-{
-    let (n, text) = field(text)?;
-    let (come, text) = field(text)?;
-    let (gone, text) = field(text)?;
-    let (wait, text) = field(text)?;
-    let row = Row {
-        n,
-        come,
-        gone,
-        wait,
-    };
-    Some((row, text))
-}
-
 /// What a row line at the front of a text says, and what follows it.
 #[tactic(auto, unfolding(crate::specs::Fronts::row_line_at))]
 pub(crate) fn row_line(text: &[u8]) -> Option<(RowLine, &[u8])>
@@ -64,9 +45,18 @@ pub(crate) fn row_line(text: &[u8]) -> Option<(RowLine, &[u8])>
 {
     let text = behind(b"row", text)?;
     let (region, text) = field(text)?;
-    let (row, text) = row_counts(text)?;
+    let (n, text) = field(text)?;
+    let (come, text) = field(text)?;
+    let (gone, text) = field(text)?;
+    let (wait, text) = field(text)?;
     let (earlier, text) = field(text)?;
     let text = behind(b"\n", text)?;
+    let row = Row {
+        n,
+        come,
+        gone,
+        wait,
+    };
     let line = RowLine {
         region,
         row,

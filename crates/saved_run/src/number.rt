@@ -1,5 +1,6 @@
 ghost use Rattle.std.specs.Prelude.{◌≡◌};
-ghost use Rattle.saved_run.specs.Fronts.{digit_count};
+ghost use Rattle.std.specs.Char.{is_ascii_digit};
+ghost use Rattle.std.specs.List.{prefix_len};
 ghost use Rattle.saved_run.specs.Numbers.{number_of};
 
 // The most digits of a number.
@@ -27,7 +28,7 @@ pub(crate) fn number(text: &[u8]) -> Option<u64>
 
 /// How many digits stand at the front of a text.
 pub(crate) fn digits(text: &[u8]) -> usize
-    ensures { result ≡ digit_count text.now }
+    ensures { result ≡ prefix_len is_ascii_digit text.now }
 {
     for (i, byte) in text.iter().enumerate() {
         if !byte.is_ascii_digit() {

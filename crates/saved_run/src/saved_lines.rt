@@ -2,7 +2,7 @@ ghost use Rattle.std.specs.Prelude.{◌≡◌, ◌++◌, ◌<◌, ◌^◌, ℕ, 
 ghost use Rattle.line_fields.specs.Fields.{lines_of};
 ghost use Rattle.snapshot.specs.Rooms.{IsRoomFor};
 ghost use Rattle.saved_run.specs.Content.{IsRowLine};
-ghost use Rattle.saved_run.specs.SavedText.{counted_line, row_counts, row_line};
+ghost use Rattle.saved_run.specs.SavedText.{counted_line, row_line};
 ghost use Rattle.saved_run.specs.Shown.{line_shown};
 
 use crate::row_line::RowLine;
@@ -81,19 +81,11 @@ fn put_row_line(text: &mut Vec<u8>, line: &RowLine) -> Result<(), NoMemory>
 {
     text.extend_from_slice(b"row")?;
     put_count(text, line.region)?;
-    put_row_counts(text, &line.row)?;
+    put_count(text, line.row.n)?;
+    put_count(text, line.row.come)?;
+    put_count(text, line.row.gone)?;
+    put_count(text, line.row.wait)?;
     put_count(text, line.earlier)?;
     text.extend_from_slice(b"\n")?;
-    Ok(())
-}
-
-#[tactic(auto, unfolding(crate::specs::SavedText::row_counts))]
-fn put_row_counts(text: &mut Vec<u8>, row: &Row) -> Result<(), NoMemory>
-    ensures { OnOk result (text.new.items ≡ text.old.items ++ row_counts row.now) }
-{
-    put_count(text, row.n)?;
-    put_count(text, row.come)?;
-    put_count(text, row.gone)?;
-    put_count(text, row.wait)?;
     Ok(())
 }

@@ -1,10 +1,10 @@
-ghost use Rattle.std.specs.Prelude.{◌≡◌, ◌<◌, ◌≤◌, ◌^◌, IfOk, Some, length};
+ghost use Rattle.std.specs.Prelude.{◌≡◌, ◌<◌, ◌≤◌, ◌^◌, IfOk, IsSomeAnd, Some, length};
 ghost use Rattle.network_file.specs.declared.limits.TheConstants.{MOST_BYTES};
 ghost use Rattle.snapshot.specs.Rooms.{IsRoomFor};
 ghost use Rattle.network_file.specs.Network.{Network};
 ghost use Rattle.region_step.specs.Start.{StartLists, zero_start};
 ghost use Rattle.saved_run.specs.Futures.{IsMoment};
-ghost use Rattle.saved_run.specs.Laws.{BeginsTrue, IsTrueShot};
+ghost use Rattle.saved_run.specs.Laws.{HasTrueStart, IsTrueShot};
 ghost use Rattle.saved_run.specs.Loading.{start_in};
 ghost use Rattle.saved_run.specs.Reading.{content_of};
 ghost use Rattle.saved_run.specs.SavedLength.{most_saved};
@@ -38,7 +38,7 @@ pub fn save(
 
     // A shot from a true start is saved as a true start.
     ensures true_start { IfOk result (λ text. (net : Network) (start : StartLists) → IsTrueShot network.now net layout.now.chart.cut start room.now →
-        BeginsTrue (content_of text.items) net layout.now.chart.cut) }
+        IsSomeAnd (content_of text.items) (λ content. HasTrueStart content net layout.now.chart.cut)) }
 
     // A shot of a run from step 0 is a moment of it, from which other networks can go on too.
     ensures moment { IfOk result (λ _. (net : Network) → IsTrueShot network.now net layout.now.chart.cut (zero_start net layout.now.chart.cut) room.now →

@@ -1,8 +1,8 @@
 use Rattle.std.specs.Prelude.{drop, take}
 use Rattle.std.proofs.Common.{◌≡◌, ◌∷◌, ◌++◌, ◌+◌, ◌-◌, ℕ, List, ap, arith, false, length, length-drop, sym, take-add, true, ◌∙◌}
 use Rattle.std.proofs.lemmas.List.{drop-drop, take_rest}
-use Rattle.plan_choice.specs.Pieces.{is_separator, leads, pieces_in}
-use Rattle.plan_choice.proofs.Cutting.{pieces-begin, pieces-found, pieces-more, pieces-whole}
+use Rattle.plan_choice.specs.Pieces.{is_separator, pieces_in}
+use Rattle.plan_choice.proofs.Cutting.{leads, pieces-begin, pieces-found, pieces-more, pieces-whole}
 use Rattle.plan_choice.proofs.separators.split_once.Goals as goal
 
 pub loop-at-init : goal.loop-at-init

@@ -1,6 +1,7 @@
 use Rattle.std.specs.Prelude.{drop, take}
 use Rattle.std.proofs.Common.{◌≡◌, ◌≤◌, ◌-◌, length}
-use Rattle.plan_choice.specs.Pieces.{leads, pieces_in}
+use Rattle.plan_choice.specs.Pieces.{pieces_in}
+use Rattle.plan_choice.proofs.Cutting.{leads}
 use Rattle.plan_choice.proofs.separators.split_once.Given as goal
 
 -- the lines so far stand in front of the pieces of the rest

@@ -58,4 +58,4 @@ returns c =
     ] in
     c.ok.ensures.value ∙ tried c.try_from.result c.loop-byte.value c.try_from.ensures
     ∙ ap (λ value. cond (nat_lt value (2 ^ 64)) (Some value) None) value
-    ∙ sym (number_of-digits text some c.if-text-gt-MOST_DIGITS.false (rw whole at c.loop-byte.invariant.digits) differs)
+    ∙ sym (number_of-digits text some (rw whole at c.loop-byte.invariant.digits) differs)

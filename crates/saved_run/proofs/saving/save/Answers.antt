@@ -1,10 +1,11 @@
+use Rattle.std.specs.Prelude.{IsSomeAnd}
 use Rattle.std.proofs.Common.{◌≡◌, ◌≤◌, length, refl, arith, ap, subst, sym, ◌∙◌}
 use Rattle.std.proofs.lemmas.List.FromFn.{length-map-range_with_len}
 use Rattle.network_file.specs.Formats.{most_records}
 use Rattle.network_file.specs.Network.{IsNetwork}
 use Rattle.network_file.proofs.NetworkFacts.{few_records}
 use Rattle.saved_run.specs.Content.{IsContent}
-use Rattle.saved_run.specs.Laws.{BeginsTrue}
+use Rattle.saved_run.specs.Laws.{HasTrueStart}
 use Rattle.saved_run.specs.Reading.{content_of}
 use Rattle.saved_run.specs.SavedLength.{most_saved}
 use Rattle.saved_run.specs.SavedText.{saved_text}
@@ -47,7 +48,7 @@ returns-clause-short c =
 
 pub returns-clause-true_start : goal.returns-clause-true_start
 returns-clause-true_start c = λ net start shot.
-    subst (λ found. BeginsTrue found net c.args.layout.now.chart.cut) (sym (returns-clause-reads c)) (shot-has_true_start c.args.network.now net c.args.layout.now.chart.cut start c.args.room.now shot)
+    subst (λ found. IsSomeAnd found (λ content. HasTrueStart content net c.args.layout.now.chart.cut)) (sym (returns-clause-reads c)) (shot-has_true_start c.args.network.now net c.args.layout.now.chart.cut start c.args.room.now shot)
 
 pub returns-clause-moment : goal.returns-clause-moment
 returns-clause-moment c = λ net shot. shown-moment c.args.network.now net c.args.layout.now.chart.cut c.args.room.now shot
