@@ -5,6 +5,7 @@ pub mod ViewUpdates
 pub mod WordUpdates
 pub mod Keeping
 pub mod Logs
+pub mod Counting
 pub mod ClaimKinds
 pub mod LookKinds
 pub mod SeatKinds

@@ -13,22 +13,22 @@ use Rattle.network_file.specs.Network.{Network}
 use Rattle.region_cut.specs.Chart.{ChartLists}
 use Rattle.region_cut.specs.Cuttings.{region_count}
 use Rattle.region_cut.specs.Joins.{are_neighbours}
-use Rattle.region_step.specs.Grid.{grid_held}
 use Rattle.region_step.specs.Region.{RegionValue}
 use Rattle.region_step.specs.Standing.{Stands}
 use Rattle.region_step.specs.Start.{StartLists}
 use Rattle.atomic_table.specs.Table.{keeps, stepped, takes}
 use Rattle.atomic_table.proofs.Lists.{set_else}
 use Rattle.border_rows.specs.Kinds.{cleared, found_at, found_short, fresh, known_at, looked, with_first}
-use Rattle.border_rows.specs.Places.{step_place, width_at, widths_of}
-use Rattle.border_rows.specs.Standing.{Claims, Counts, FieldState, IsHome, IsStanding, Rows, Steps}
-use Rattle.border_rows.specs.Views.{IsHeld, holders, knowers, times_in}
-use Rattle.border_rows.specs.Words.{border_cell, border_word, step_of, steps_of}
+use Rattle.border_rows.specs.Places.{step_place, widths_of}
+use Rattle.border_rows.specs.Standing.{Claims, FieldState, IsHome, IsStanding}
+use Rattle.border_rows.specs.Views.{IsHeld, holders, knowers}
+use Rattle.border_rows.specs.Words.{step_of, steps_of}
 use Rattle.border_rows.specs.declared.view.Hold.{Hold}
 use Rattle.border_rows.specs.declared.view.Terms.{Terms}
 use Rattle.border_rows.specs.declared.view.View.{View}
-use Rattle.border_rows.proofs.Keeping.{neighbours-there}
-use Rattle.border_rows.proofs.ViewUpdates.{Contains-elem, Contains-set, set-Contains, set-keeps, sum-set}
+use Rattle.border_rows.proofs.Counting.{IsQuiet, counts-after, quiet-counted}
+use Rattle.border_rows.proofs.Keeping.{AreRight, IsRight, all_right, neighbours-there, old-rows, rows-right, steps-right}
+use Rattle.border_rows.proofs.ViewUpdates.{Contains-cons, Contains-elem, Contains-set, sum-set}
 
 -- how many of a view's holds are of region r, and of how many of these the step is known
 abbrev pub held_in : View → (r : ℕ) → ℕ
@@ -36,56 +36,6 @@ held_in view r = count_by (λ hold. hold.region == r) view.holds
 
 abbrev pub known_in : View → (r : ℕ) → ℕ
 known_in view r = count_by (λ hold. (hold.region == r) && hold.known) view.holds
-
--- what the rule says of a hold whose step is known
-pub record IsRight (net : Network) (chart : ChartLists) (start : StartLists) (words : List ℕ) (hold : Hold) : Type 0 where
-  pub known : step_of chart words hold.region ≡ (if hold.published then hold.step + 1 else hold.step)
-  pub around : (q : ℕ) → Contains hold.cleared q → are_neighbours net.connectors chart.cut hold.region q ≡ true
-  pub cleared : (q : ℕ) → Contains hold.cleared q → hold.step ≤ step_of chart words q
-  pub few : hold.written ≤ width_at (widths_of chart) hold.region
-  pub written : (j : ℕ) → j < hold.written →
-      border_word chart words hold.region (hold.step + 1) j ≡ grid_held net chart.cut start (hold.step + 1) (border_cell chart hold.region j)
-  pub clear : (q : ℕ) → (hold.written ≢ 0) ⊎ (hold.published ≡ true) → are_neighbours net.connectors chart.cut hold.region q ≡ true → Contains hold.cleared q
-  pub whole : hold.published ≡ true → hold.written ≡ width_at (widths_of chart) hold.region
-
--- each of the views' holds whose step is known is right
-abbrev pub AreRight : Network → ChartLists → StartLists → (words : List ℕ) → (views : List View) → Type 0
-AreRight net chart start words views = (view : View) (hold : Hold) → IsHeld views view hold → hold.known ≡ true → IsRight net chart start words hold
-
--- the rule says so of each hold
-pub all_right : (net : Network) (chart : ChartLists) (start : StartLists) (s : FieldState) → Steps net chart start s → Rows net chart start s → AreRight net chart start s.words s.views
-all_right net chart start s steps rows view hold held knows = record {
-  known = steps.known view hold held knows;
-  around = λ q has. steps.around view hold q held knows has;
-  cleared = λ q has. steps.cleared view hold q held knows has;
-  few = rows.few view hold held knows;
-  written = λ j done. rows.written view hold j held knows done;
-  clear = λ q begun near. rows.clear view hold q held knows begun near;
-  whole = λ done. rows.whole view hold held knows done;
-}
-
--- with the words as they are, other views keep the steps where all their holds are right
-pub steps-right : (net : Network) (chart : ChartLists) (start : StartLists) (s : FieldState) (homes : List (maybe.Option RegionValue)) (views : List View) →
-    Steps net chart start s → AreRight net chart start s.words views → Steps net chart start record { words = s.words; homes = homes; views = views }
-steps-right net chart start s homes views old right = record {
-  lawful = old.lawful;
-  started = old.started;
-  known = λ view hold held knows. (right view hold held knows).known;
-  around = λ view hold q held knows has. (right view hold held knows).around q has;
-  cleared = λ view hold q held knows has. (right view hold held knows).cleared q has;
-}
-
--- and the rows
-pub rows-right : (net : Network) (chart : ChartLists) (start : StartLists) (s : FieldState) (homes : List (maybe.Option RegionValue)) (views : List View) →
-    Rows net chart start s → AreRight net chart start s.words views → Rows net chart start record { words = s.words; homes = homes; views = views }
-rows-right net chart start s homes views old right = record {
-  now = old.now;
-  before = old.before;
-  few = λ view hold held knows. (right view hold held knows).few;
-  written = λ view hold j held knows done. (right view hold held knows).written j done;
-  clear = λ view hold q held knows begun near. (right view hold held knows).clear q begun near;
-  whole = λ view hold held knows done. (right view hold held knows).whole done;
-}
 
 -- a hold is one of before or one of the changed view
 pub held-set : (views : List View) (id : ℕ) (w view : View) (hold : Hold) → IsHeld (set views id w) view hold → IsHeld views view hold ⊎ Contains w.holds hold
@@ -97,12 +47,7 @@ held-set views id w view hold held = elim (Contains-set views id w view held.sea
 -- what a step that reads changes in a view: it holds the same regions, knows the steps of no fewer, and has seen no more than
 -- there is
 pub record IsReader (terms : Terms) (s : FieldState) (view w : View) : Type 0 where
-  pub share : w.share ≡ view.share
-  pub alike : w.terms ≡ view.terms
-  pub log : w.log ≡ view.log
-  pub reach : w.reach ≡ view.reach
-  pub long : length w.seen ≡ length view.seen
-  pub seen : (q : ℕ) → q < region_count terms.setup.now.chart.cut → slice_index w.seen q ≤ step_of terms.setup.now.chart s.words q
+  pub quiet : IsQuiet terms s.words view w
   pub same : (r : ℕ) → held_in w r ≡ held_in view r
   pub more : (r : ℕ) → known_in view r ≤ known_in w r
   pub there : (hold : Hold) → Contains w.holds hold → hold.region < region_count terms.setup.now.chart.cut
@@ -131,44 +76,7 @@ claims-read terms s homes id view w old is reads long stay =
           (home.0, stay r home.0 unknown home.1, home.2);
     }
 
--- and the counts
-counts-read : (terms : Terms) (s : FieldState) (homes : List (maybe.Option RegionValue)) (id : ℕ) (view w : View) →
-    Counts terms terms.setup.now.chart terms.setup.now.start terms.seats s → get_elem? s.views id ≡ some view → view.share ≢ 0 → IsReader terms s view w →
-    Counts terms terms.setup.now.chart terms.setup.now.start terms.seats record { words = s.words; homes = homes; views = set s.views id w }
-counts-read terms s homes id view w old is shares reads =
-    let chart : ChartLists = terms.setup.now.chart in
-    let seat : Contains s.views view = Contains-elem s.views id view is in
-    let shared : w.share ≢ 0 = λ none. shares (sym reads.share ∙ none) in
-    record {
-      lengths = λ v has some. elim (Contains-set s.views id w v has) [
-        | inl new ↦ ap (λ (u : View). length u.seen) new ∙ reads.long ∙ old.lengths view seat shares
-        | inr before ↦ old.lengths v before some
-      ];
-      seen = λ v r has within. elim (Contains-set s.views id w v has) [
-        | inl new ↦ subst (λ (u : View). slice_index u.seen r ≤ step_of chart s.words r) (sym new) (reads.seen r within)
-        | inr before ↦ old.seen v r before within
-      ];
-      shares = omega (arith, sum-set (λ (v : View). v.share) s.views id w view is, reads.share, old.shares);
-      spent = λ v has none. elim (Contains-set s.views id w v has) [
-        | inl new ↦ absurd (shared (sym (ap (λ (u : View). u.share) new) ∙ none))
-        | inr before ↦ old.spent v before none
-      ];
-      moves = omega (arith, sum-set (λ (v : View). length v.log) s.views id w view is, ap length reads.log, old.moves);
-      logged = λ r step. omega (arith, sum-set (λ (v : View). times_in v.log r step) s.views id w view is, ap (λ log. times_in log r step) reads.log, old.logged r step);
-      reach = λ r within. elim (old.reach r within) [
-        | inl low ↦ inl low
-        | inr far ↦ inr (elim (set-keeps s.views id w view far.0 is far.1) [
-          | inl own ↦ (w, set-Contains s.views id w view is, omega (arith, far.2, ap (λ (u : View). u.reach) own, reads.reach))
-          | inr other ↦ (far.0, other, far.2)
-        ])
-      ];
-      alike = λ v has some. elim (Contains-set s.views id w v has) [
-        | inl new ↦ ap (λ (u : View). u.terms) new ∙ reads.alike ∙ old.alike view seat shares
-        | inr before ↦ old.alike v before some
-      ];
-    }
-
--- and so the rule
+-- so does it keep the rule
 pub standing-read : (terms : Terms) (s : FieldState) (homes : List (maybe.Option RegionValue)) (id : ℕ) (view w : View) →
     IsStanding terms s → get_elem? s.views id ≡ some view → view.share ≢ 0 → IsReader terms s view w →
     length homes ≡ length s.homes → ((r : ℕ) (region : RegionValue) → knowers (set s.views id w) r ≡ 0 → IsHome s.homes r region → IsHome homes r region) →
@@ -181,9 +89,9 @@ standing-read terms s homes id view w old is shares reads long stay =
     ] in
     record {
       claims = claims-read terms s homes id view w old.claims is reads long stay;
-      steps = steps-right net terms.setup.now.chart terms.setup.now.start s homes (set s.views id w) old.steps right;
-      rows = rows-right net terms.setup.now.chart terms.setup.now.start s homes (set s.views id w) old.rows right;
-      counts = counts-read terms s homes id view w old.counts is shares reads;
+      steps = steps-right net terms.setup.now.chart terms.setup.now.start (record { words = s.words; homes = homes; views = set s.views id w }) old.steps.lawful old.steps.started right;
+      rows = rows-right net terms.setup.now.chart terms.setup.now.start (record { words = s.words; homes = homes; views = set s.views id w }) (old-rows net terms.setup.now.chart terms.setup.now.start s old.rows) right;
+      counts = counts-after terms s s.words homes id view w old.counts is shares (quiet-counted terms s.words s.words view w (λ r within. refl) reads.quiet);
     }
 
 -- what was read of a region is what it has published
@@ -204,44 +112,53 @@ pub word_stays : (terms : Terms) (s : FieldState) (i : ℕ) (homes : List (maybe
     IsStanding terms record { words = s.words; homes = homes; views = views } → IsStanding terms record { words = set s.words i (slice_index s.words i); homes = homes; views = views }
 word_stays terms s i homes views new = subst (λ words. IsStanding terms record { words = words; homes = homes; views = views }) (sym (set-get_or s.words i 0)) new
 
--- a view that has only seen the step of a region keeps the rule
-seen-keeps : (terms : Terms) (s : FieldState) (id r : ℕ) (c : List (ℕ × RegionValue)) (view w : View) →
-    IsStanding terms s → get_elem? s.views id ≡ some view → view.share ≢ 0 → r < region_count terms.setup.now.chart.cut →
-    w.share ≡ view.share → w.terms ≡ view.terms → w.log ≡ view.log → w.reach ≡ view.reach → w.holds ≡ view.holds →
-    w.seen ≡ set view.seen r (step_of terms.setup.now.chart s.words r) →
-    IsStanding terms (stepped s (step_place (widths_of terms.setup.now.chart) r) (step_of terms.setup.now.chart s.words r) id c w keeps)
-seen-keeps terms s id r c view w old is shares within share alike log reach same saw =
-    let step : ℕ = step_of terms.setup.now.chart s.words r in
-    let seat : Contains s.views view = Contains-elem s.views id view is in
-    let held : (hold : Hold) → Contains w.holds hold → IsHeld s.views view hold = λ hold has. record { seat = seat; held = subst (λ holds. Contains holds hold) same has } in
-    let right : AreRight terms.setup.now.net terms.setup.now.chart terms.setup.now.start s.words s.views = all_right terms.setup.now.net terms.setup.now.chart terms.setup.now.start s old.steps old.rows in
-    let reads : IsReader terms s view w = record {
-      share = share;
-      alike = alike;
-      log = log;
-      reach = reach;
-      long = ap length saw ∙ length-set view.seen r step;
-      seen = λ q there. subst (λ seen. slice_index seen q ≤ step_of terms.setup.now.chart s.words q) (sym saw) (seen-read terms s view r q old seat shares within there);
+-- a view that holds the same reads no more
+same-reads : (terms : Terms) (s : FieldState) (id : ℕ) (view w : View) → IsStanding terms s → get_elem? s.views id ≡ some view → w.holds ≡ view.holds → IsQuiet terms s.words view w →
+    IsReader terms s view w
+same-reads terms s id view w old is same quiet =
+    let held : (hold : Hold) → Contains w.holds hold → IsHeld s.views view hold =
+    λ hold has. record { seat = Contains-elem s.views id view is; held = subst (λ holds. Contains holds hold) same has } in
+    record {
+      quiet = quiet;
       same = λ q. ap (λ holds. count_by (λ (hold : Hold). hold.region == q) holds) same;
       more = λ q. omega (arith, ap (λ holds. count_by (λ (hold : Hold). (hold.region == q) && hold.known) holds) same);
       there = λ hold has. old.claims.there view hold (held hold has);
-      right = λ hold has knows. right view hold (held hold has) knows;
-    } in
-    word_stays terms s (step_place (widths_of terms.setup.now.chart) r) s.homes (set s.views id w) (standing-read terms s s.homes id view w old is shares reads refl (λ q region none home. home))
+      right = λ hold has knows. all_right terms.setup.now.net terms.setup.now.chart terms.setup.now.start s old.steps old.rows view hold (held hold has) knows;
+    }
+
+-- a step that changes neither words nor what its seat holds keeps the rule
+pub same-keeps : (terms : Terms) (s : FieldState) (i id : ℕ) (c : List (ℕ × RegionValue)) (view w : View) → IsStanding terms s → get_elem? s.views id ≡ some view → view.share ≢ 0 →
+    w.holds ≡ view.holds → IsQuiet terms s.words view w → IsStanding terms (stepped s i (slice_index s.words i) id c w keeps)
+same-keeps terms s i id c view w old is shares same quiet =
+    word_stays terms s i s.homes (set s.views id w) (standing-read terms s s.homes id view w old is shares (same-reads terms s id view w old is same quiet) refl (λ q region none home. home))
+
+-- a view that has only seen the step of a region has published nothing more
+seen-quiet : (terms : Terms) (s : FieldState) (id r : ℕ) (view w : View) → IsStanding terms s → get_elem? s.views id ≡ some view → view.share ≢ 0 → r < region_count terms.setup.now.chart.cut →
+    w ≡ record w { terms = view.terms; share = view.share; log = view.log; reach = view.reach; seen = set view.seen r (step_of terms.setup.now.chart s.words r) } → IsQuiet terms s.words view w
+seen-quiet terms s id r view w old is shares within saw = record {
+  alike = ap (λ (v : View). v.terms) saw;
+  share = ap (λ (v : View). v.share) saw;
+  log = ap (λ (v : View). v.log) saw;
+  reach = ap (λ (v : View). v.reach) saw;
+  long = ap (λ (v : View). length v.seen) saw ∙ length-set view.seen r (step_of terms.setup.now.chart s.words r);
+  seen = λ q there. omega (arith, ap (λ (v : View). slice_index v.seen q) saw, seen-read terms s view r q old (Contains-elem s.views id view is) shares within there);
+}
 
 -- a look at a region's step keeps the rule
 pub looked-keeps : (terms : Terms) (s : FieldState) (id r : ℕ) (c : List (ℕ × RegionValue)) (view : View) →
     IsStanding terms s → get_elem? s.views id ≡ some view → view.share ≢ 0 → r < region_count terms.setup.now.chart.cut →
     IsStanding terms (stepped s (step_place (widths_of terms.setup.now.chart) r) (step_of terms.setup.now.chart s.words r) id c (looked view r (step_of terms.setup.now.chart s.words r)) keeps)
 looked-keeps terms s id r c view old is shares within =
-    seen-keeps terms s id r c view (looked view r (step_of terms.setup.now.chart s.words r)) old is shares within refl refl refl refl refl refl
+    let w : View = looked view r (step_of terms.setup.now.chart s.words r) in
+    same-keeps terms s (step_place (widths_of terms.setup.now.chart) r) id c view w old is shares refl (seen-quiet terms s id r view w old is shares within refl)
 
 -- so does finding a neighbour a step lower
 pub found_short-keeps : (terms : Terms) (s : FieldState) (id r q : ℕ) (c : List (ℕ × RegionValue)) (view : View) →
     IsStanding terms s → get_elem? s.views id ≡ some view → view.share ≢ 0 → q < region_count terms.setup.now.chart.cut →
     IsStanding terms (stepped s (step_place (widths_of terms.setup.now.chart) q) (step_of terms.setup.now.chart s.words q) id c (found_short view r q (step_of terms.setup.now.chart s.words q)) keeps)
 found_short-keeps terms s id r q c view old is shares within =
-    seen-keeps terms s id q c view (found_short view r q (step_of terms.setup.now.chart s.words q)) old is shares within refl refl refl refl refl refl
+    let w : View = found_short view r q (step_of terms.setup.now.chart s.words q) in
+    same-keeps terms s (step_place (widths_of terms.setup.now.chart) q) id c view w old is shares refl (seen-quiet terms s id q view w old is shares within refl)
 
 -- the steps of all regions have each region's
 pub steps_of-at : (chart : ChartLists) (words : List ℕ) (r : ℕ) → r < region_count chart.cut → slice_index (steps_of chart words) r ≡ step_of chart words r
@@ -263,14 +180,10 @@ short-by-one terms s r q view hold old held region knows unpublished near below 
 pub first-Contains : (change : Hold → Hold) (all : List Hold) (hold : Hold) (holds : List Hold) (x : Hold) → all ≡ hold ∷ holds →
     Contains (with_first change all) x → (x ≡ change hold) ⊎ Contains all x
 first-Contains change all hold holds x is has =
-    elim (split (subst (λ hs. Contains (with_first change hs) x) is has)) [
+    elim (Contains-cons x (change hold) holds (subst (λ hs. Contains (with_first change hs) x) is has)) [
       | inl new ↦ inl new
-      | inr old ↦ inr (subst (λ hs. Contains hs x) (sym is) old)
+      | inr old ↦ inr (subst (λ hs. Contains hs x) (sym is) (suc old.0, omega (arith, old.1), old.2))
     ]
-  where
-    split : Contains (change hold ∷ holds) x → (x ≡ change hold) ⊎ Contains (hold ∷ holds) x
-    split (zero, within, here) = inl (sym here)
-    split (suc k, within, here) = inr (suc k, omega (arith, within), here)
 
 -- so a count changes by what it counts
 pub first-count : (p : Hold → Bool) (change : Hold → Hold) (all : List Hold) (hold : Hold) (holds : List Hold) → all ≡ hold ∷ holds →
@@ -292,12 +205,12 @@ cleared-right : (net : Network) (chart : ChartLists) (start : StartLists) (words
     IsRight net chart start words (record hold { cleared = q ∷ hold.cleared })
 cleared-right net chart start words hold q was near past = record {
   known = was.known;
-  around = λ p has. elim (split p has) [
-    | inl new ↦ subst (λ n. are_neighbours net.connectors chart.cut hold.region n ≡ true) new near
+  around = λ p has. elim (Contains-cons p q hold.cleared has) [
+    | inl new ↦ subst (λ n. are_neighbours net.connectors chart.cut hold.region n ≡ true) (sym new) near
     | inr before ↦ was.around p before
   ];
-  cleared = λ p has. elim (split p has) [
-    | inl new ↦ subst (λ n. hold.step ≤ step_of chart words n) new past
+  cleared = λ p has. elim (Contains-cons p q hold.cleared has) [
+    | inl new ↦ subst (λ n. hold.step ≤ step_of chart words n) (sym new) past
     | inr before ↦ was.cleared p before
   ];
   few = was.few;
@@ -305,10 +218,6 @@ cleared-right net chart start words hold q was near past = record {
   clear = λ p begun beside. let has = was.clear p begun beside in (suc has.0, omega (arith, has.1), has.2);
   whole = was.whole;
 }
-  where
-    split : (p : ℕ) → Contains (q ∷ hold.cleared) p → (q ≡ p) ⊎ Contains hold.cleared p
-    split p (zero, within, here) = inl here
-    split p (suc k, within, here) = inr (k, omega (arith, within), here)
 
 -- finding a neighbour at the region's step or past it keeps the rule
 pub cleared-keeps : (terms : Terms) (s : FieldState) (id r q : ℕ) (c : List (ℕ × RegionValue)) (view : View) (hold : Hold) (holds : List Hold) →
@@ -323,12 +232,7 @@ cleared-keeps terms s id r q c view hold holds old is shares within first region
     let own : IsHeld s.views view hold = record { seat = seat; held = first-held view.holds hold holds first } in
     let beside = subst (λ p. are_neighbours terms.setup.now.net.connectors terms.setup.now.chart.cut p q ≡ true) (sym region) near in
     let reads : IsReader terms s view w = record {
-      share = refl;
-      alike = refl;
-      log = refl;
-      reach = refl;
-      long = length-set view.seen q step;
-      seen = λ p there. seen-read terms s view q p old seat shares within there;
+      quiet = seen-quiet terms s id q view w old is shares within refl;
       same = λ p. omega (arith, first-count (λ h. h.region == p) (clears q) view.holds hold holds first);
       more = λ p. omega (arith, first-count (λ h. (h.region == p) && h.known) (clears q) view.holds hold holds first);
       there = λ h has. elim (first-Contains (clears q) view.holds hold holds h first has) [
@@ -414,12 +318,7 @@ found_at-keeps terms s id r c view hold holds old is shares within some_first ta
     let right : AreRight terms.setup.now.net terms.setup.now.chart terms.setup.now.start s.words s.views = all_right terms.setup.now.net terms.setup.now.chart terms.setup.now.start s old.steps old.rows in
     let counts = λ (p : ℕ). first-count (λ h. (h.region == p) && h.known) knows view.holds (fresh r) holds first in
     let reads : IsReader terms s view w = record {
-      share = refl;
-      alike = refl;
-      log = refl;
-      reach = refl;
-      long = length-set view.seen r step;
-      seen = λ p there. seen-read terms s view r p old seat shares within there;
+      quiet = seen-quiet terms s id r view w old is shares within refl;
       same = λ p. omega (arith, first-count (λ h. h.region == p) knows view.holds (fresh r) holds first);
       more = λ p. omega (arith, counts p, none_of (r == p));
       there = λ h has. elim (first-Contains knows view.holds (fresh r) holds h first has) [

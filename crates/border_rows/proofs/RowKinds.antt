@@ -4,11 +4,11 @@ use Rattle.std.specs.List.{Contains, count_by, range_with_len}
 use Rattle.std.proofs.Common.{◌≡◌, ◌≢◌, ◌⊎◌, ℕ, Bool, zero, suc, ◌+◌, ◌<◌, ◌≤◌, inl, inr, true, false, List, [], ◌∷◌, length, get_or, set, refl, sym, ap, subst, ◌∙◌, arith}
 use Rattle.std.proofs.lemmas.Bool.{cases_eq, eq-eqb, ne_eqb}
 use Rattle.std.proofs.lemmas.List.{get_or-set_other, get_or-set_same, length-map, length-set, set-get_or}
-use Rattle.std.proofs.lemmas.List.FromFn.{get_or-map-range_with_len, get_or-range_with_len, length-range_with_len}
+use Rattle.std.proofs.lemmas.List.FromFn.{get_or-map-range_with_len, length-range_with_len}
 use Rattle.std.proofs.lemmas.List.Sums.{get_or-le-sum_by, sum_by-cons}
 use mathlib.Core.Option.{some}
 use lib.ListN.{get_elem?}
-use Rattle.signal_plan.proofs.Sums.{count_by-cons, sum_by-same, sum_by_range_one, sum_by_splits}
+use Rattle.signal_plan.proofs.Sums.{count_by-cons, sum_by_range_one, sum_by_splits}
 use Rattle.network_file.specs.Network.{Network}
 use Rattle.region_cut.specs.Chart.{ChartLists, IsChart}
 use Rattle.region_cut.specs.Cuttings.{region_count}
@@ -19,20 +19,22 @@ use Rattle.region_step.specs.Grid.{grid_held}
 use Rattle.region_step.specs.Region.{RegionValue}
 use Rattle.region_step.specs.Start.{StartLists}
 use Rattle.atomic_table.specs.Table.{keeps, stepped}
+use Rattle.atomic_table.proofs.Lists.{set_again}
 use Rattle.border_rows.specs.Kinds.{published, with_first, wrote}
 use Rattle.border_rows.specs.Places.{row_place, step_place, width_at, widths_of}
-use Rattle.border_rows.specs.Standing.{Claims, Counts, FieldState, IsStanding, Rows, Steps, steps_made, times_made}
-use Rattle.border_rows.specs.Views.{IsHeld, holders, knowers, times_in}
+use Rattle.border_rows.specs.Standing.{Claims, FieldState, IsStanding, steps_made}
+use Rattle.border_rows.specs.Views.{IsHeld, holders, knowers}
 use Rattle.border_rows.specs.Words.{border_cell, border_word, claim_of, step_of, steps_of}
 use Rattle.border_rows.specs.declared.view.Hold.{Hold}
 use Rattle.border_rows.specs.declared.view.PublishedStep.{PublishedStep}
 use Rattle.border_rows.specs.declared.view.Terms.{Terms}
 use Rattle.border_rows.specs.declared.view.View.{View}
 use Rattle.border_rows.proofs.ChartWidths.{length-widths_of}
-use Rattle.border_rows.proofs.Keeping.{neighbours-there, steps_of-same}
-use Rattle.border_rows.proofs.LookKinds.{steps_of-at}
-use Rattle.border_rows.proofs.Logs.{times_made-more, times_made-same}
-use Rattle.border_rows.proofs.ViewUpdates.{Contains-elem, Contains-set, set-Contains, set-keeps, sum-set}
+use Rattle.border_rows.proofs.Keeping.{AreRight, IsRight, all_right, neighbours-there, right-stays, rows-right, steps-right, steps_of-same}
+use Rattle.border_rows.proofs.LookKinds.{first-held, steps_of-at}
+use Rattle.border_rows.proofs.Counting.{IsCounted, IsQuiet, counts-after, quiet-counted, sum-range-same}
+use Rattle.border_rows.proofs.Logs.{times_made-more}
+use Rattle.border_rows.proofs.ViewUpdates.{Contains-cons, Contains-elem, Contains-set, set-Contains, sum-set}
 use Rattle.border_rows.proofs.WordUpdates.{border-set, border-set-claim, border-set-other, border-set-step, step-set, step-set-border, step-set-claim, step-set-other}
 
 -- a list's item counts no more than all do
@@ -83,10 +85,7 @@ pub record IsWorking (terms : Terms) (s : FieldState) (id : ℕ) (view : View) (
 
 -- the hold is the view's
 hold-held : (views : List View) (id : ℕ) (view : View) (hold : Hold) (holds : List Hold) → get_elem? views id ≡ some view → view.holds ≡ hold ∷ holds → IsHeld views view hold
-hold-held views id view hold holds seat held = record {
-  seat = Contains-elem views id view seat;
-  held = subst (λ (list : List Hold). Contains list hold) (sym held) (0, omega arith, refl);
-}
+hold-held views id view hold holds seat held = record { seat = Contains-elem views id view seat; held = first-held view.holds hold holds held }
 
 pub working-held : (terms : Terms) (s : FieldState) (id : ℕ) (view : View) (hold : Hold) (holds : List Hold) → IsWorking terms s id view hold holds → IsHeld s.views view hold
 working-held terms s id view hold holds works = hold-held s.views id view hold holds works.seat works.held
@@ -125,16 +124,11 @@ later-apart terms s id view hold holds works h has is =
     )
 
 -- a step that leaves the word and the view as they are keeps the rule
-elem-set : {X : Type 0} (xs : List X) (i : ℕ) (x : X) → get_elem? xs i ≡ some x → set xs i x ≡ xs
-elem-set [] i x is = refl
-elem-set (y ∷ ys) zero x is = cc
-elem-set (y ∷ ys) (suc i) x is = ap (λ list. y ∷ list) (elem-set ys i x is)
-
 pub read-keeps : (terms : Terms) (s : FieldState) (i id : ℕ) (c : List (ℕ × RegionValue)) (view : View) → IsStanding terms s → get_elem? s.views id ≡ some view →
     IsStanding terms (stepped s i (slice_index s.words i) id c view keeps)
 read-keeps terms s i id c view standing seat =
     let words : set s.words i (slice_index s.words i) ≡ s.words = set-get_or s.words i 0 in
-    let views : set s.views id view ≡ s.views = elem-set s.views id view seat in
+    let views : set s.views id view ≡ s.views = set_again s.views id view seat in
     let of : List ℕ → List View → FieldState = λ some_words some_views. record { words = some_words; homes = s.homes; views = some_views } in
     let same : stepped s i (slice_index s.words i) id c view keeps ≡ s = ap (λ some_words. of some_words (set s.views id view)) words ∙ ap (of s.words) views in
     subst (IsStanding terms) (sym same) standing
@@ -225,30 +219,20 @@ held-after : (views : List View) (id : ℕ) (view w : View) (hold new : Hold) (h
 held-after views id view w hold new holds seat changed one v h held = elim (cases_eq h.region hold.region) [
   | inl is ↦
       let there : Contains (set views id w) w = set-Contains views id w view seat in
-      let own : Contains w.holds new = subst (λ (list : List Hold). Contains list new) (sym changed.after) (0, omega arith, refl) in
       let few : holders (set views id w) hold.region ≤ 1 = omega (arith, one hold.region, holders-set views id view w hold new holds seat changed hold.region) in
-      inl (holds-same (set views id w) v w h new hold.region few held record { seat = there; held = own } is changed.region)
+      inl (holds-same (set views id w) v w h new hold.region few held record { seat = there; held = first-held w.holds new holds changed.after } is changed.region)
   | inr other ↦ elim (Contains-set views id w v held.seat) [
     | inl is ↦
         let has : Contains (new ∷ holds) h = subst (λ (list : List Hold). Contains list h) (ap (λ (some_view : View). some_view.holds) is ∙ changed.after) held.held in
-        let apart : new ≢ h = λ same. other (sym (ap (λ (some_hold : Hold). some_hold.region) same) ∙ changed.region) in
-        inr (
-          other,
-          (
-            view,
-            record {
-              seat = Contains-elem views id view seat;
-              held = subst (λ (list : List Hold). Contains list h) (sym changed.before) (later new hold holds h has apart);
-            },
-          ),
-        )
+        elim (Contains-cons h new holds has) [
+          | inl same ↦ absurd (other (ap (λ (some_hold : Hold). some_hold.region) same ∙ changed.region))
+          | inr later ↦
+              let before : Contains view.holds h = subst (λ (list : List Hold). Contains list h) (sym changed.before) (suc later.0, omega (arith, later.1), later.2) in
+              inr (other, (view, record { seat = Contains-elem views id view seat; held = before }))
+        ]
     | inr was ↦ inr (other, (v, record { seat = was; held = held.held }))
   ]
 ]
-  where
-    later : (x y : Hold) (xs : List Hold) (z : Hold) → Contains (x ∷ xs) z → x ≢ z → Contains (y ∷ xs) z
-    later x y xs z (zero, within, is) apart = absurd (apart is)
-    later x y xs z (suc k, within, is) apart = (suc k, omega (arith, within), is)
 
 -- the field once the view and the words are changed
 abbrev pub field_of : FieldState → (words : List ℕ) → (views : List View) → FieldState
@@ -289,97 +273,31 @@ pub record AreRaised (chart : ChartLists) (before after : List ℕ) (r : ℕ) : 
   pub rises : (q : ℕ) → q < region_count chart.cut → step_of chart before q ≤ step_of chart after q
   pub others : (q : ℕ) → q < region_count chart.cut → q ≢ r → step_of chart after q ≡ step_of chart before q
 
-steps-worked : (terms : Terms) (s : FieldState) (id : ℕ) (view w : View) (hold new : Hold) (holds : List Hold) (words : List ℕ) →
+-- the changed hold is right, and the others stay so
+right-worked : (terms : Terms) (s : FieldState) (id : ℕ) (view w : View) (hold new : Hold) (holds : List Hold) (words : List ℕ) →
     IsWorking terms s id view hold holds → IsChanged view w hold new holds → AreRaised terms.setup.now.chart s.words words hold.region →
-    AreLawful terms.setup.now.net terms.setup.now.chart.cut (steps_of terms.setup.now.chart words) →
-    step_of terms.setup.now.chart words hold.region ≡ (if new.published then hold.step + 1 else hold.step) →
-    Steps terms.setup.now.net terms.setup.now.chart terms.setup.now.start (field_of s words (set s.views id w))
-steps-worked terms s id view w hold new holds words works changed raised lawful own =
+    ((q u j : ℕ) → q < region_count terms.setup.now.chart.cut → q ≢ hold.region → j < width_at (widths_of terms.setup.now.chart) q →
+    border_word terms.setup.now.chart words q u j ≡ border_word terms.setup.now.chart s.words q u j) →
+    IsRight terms.setup.now.net terms.setup.now.chart terms.setup.now.start words new → AreRight terms.setup.now.net terms.setup.now.chart terms.setup.now.start words (set s.views id w)
+right-worked terms s id view w hold new holds words works changed raised word own v h held knows =
     let net : Network = terms.setup.now.net in
     let chart : ChartLists = terms.setup.now.chart in
-    let old = works.standing.steps in
-    let held = working-held terms s id view hold holds works in
-    let from = held-after s.views id view w hold new holds works.seat changed works.standing.claims.one in
-    record {
-      lawful = lawful;
-      started = λ r within. omega (arith, old.started r within, raised.rises r within);
-      known = λ v h was knows. elim (from v h was) [
-        | inl is ↦
-            subst (λ (k : Hold). step_of chart words k.region ≡ (if k.published then k.step + 1 else k.step)) (sym is)
-            (rw (changed.region, changed.step) own)
-        | inr other ↦ raised.others h.region (works.standing.claims.there other.1.0 h other.1.1) other.0 ∙ old.known other.1.0 h other.1.1 knows
-      ];
-      around = λ v h q was knows. elim (from v h was) [
-        | inl is ↦
-            subst (λ (k : Hold). Contains k.cleared q → are_neighbours net.connectors chart.cut k.region q ≡ true) (sym is)
-            (rw (changed.region, changed.cleared) (old.around view hold q held works.known))
-        | inr other ↦ old.around other.1.0 h q other.1.1 knows
-      ];
-      cleared = λ v h q was knows. elim (from v h was) [
-        | inl is ↦
-            subst (λ (k : Hold). Contains k.cleared q → k.step ≤ step_of chart words q) (sym is)
-            (rw (changed.step, changed.cleared)
-            (λ has.
-            let near = neighbours-there net chart hold.region q (old.around view hold q held works.known has) in
-            omega (arith, old.cleared view hold q held works.known has, raised.rises q near.1)))
-        | inr other ↦ λ has.
-            let near = neighbours-there net chart h.region q (old.around other.1.0 h q other.1.1 knows has) in
-            omega (arith, old.cleared other.1.0 h q other.1.1 knows has, raised.rises q near.1)
-      ];
-    }
-
--- what the view has counted follows what is published
-pub record IsCounted (terms : Terms) (before after : List ℕ) (view w : View) : Type 0 where
-  pub alike : w.terms ≡ view.terms
-  pub share : w.share ≡ view.share
-  pub lengths : length w.seen ≡ length view.seen
-  pub seen : (r : ℕ) → r < region_count terms.setup.now.chart.cut → slice_index w.seen r ≤ step_of terms.setup.now.chart after r
-  pub moves : length w.log + steps_made terms.setup.now.chart terms.setup.now.start before ≡ length view.log + steps_made terms.setup.now.chart terms.setup.now.start after
-  pub logged : (r s : ℕ) → times_in w.log r s + times_made terms.setup.now.chart terms.setup.now.start before r s ≡ times_in view.log r s + times_made terms.setup.now.chart terms.setup.now.start after r s
-  pub further : view.reach ≤ w.reach
-  pub reach : (r : ℕ) → r < region_count terms.setup.now.chart.cut →
-      (step_of terms.setup.now.chart after r ≡ step_of terms.setup.now.chart before r) ⊎ (step_of terms.setup.now.chart after r ≤ w.reach)
-
-counts-worked : (terms : Terms) (s : FieldState) (id : ℕ) (view w : View) (words : List ℕ) → IsStanding terms s → get_elem? s.views id ≡ some view → view.share ≢ 0 →
-    ((r : ℕ) → r < region_count terms.setup.now.chart.cut → step_of terms.setup.now.chart s.words r ≤ step_of terms.setup.now.chart words r) → IsCounted terms s.words words view w →
-    Counts terms terms.setup.now.chart terms.setup.now.start terms.seats (field_of s words (set s.views id w))
-counts-worked terms s id view w words standing seat share rises counted =
-    let chart : ChartLists = terms.setup.now.chart in
     let start : StartLists = terms.setup.now.start in
-    let old = standing.counts in
-    let here : Contains s.views view = Contains-elem s.views id view seat in
-    let new : Contains (set s.views id w) w = set-Contains s.views id w view seat in
-    record {
-      lengths = λ v has some_share. elim (Contains-set s.views id w v has) [
-        | inl is ↦ subst (λ (x : View). length x.seen ≡ region_count chart.cut) (sym is) (counted.lengths ∙ old.lengths view here share)
-        | inr was ↦ old.lengths v was some_share
-      ];
-      seen = λ v r has within. elim (Contains-set s.views id w v has) [
-        | inl is ↦ subst (λ (x : View). slice_index x.seen r ≤ step_of chart words r) (sym is) (counted.seen r within)
-        | inr was ↦ omega (arith, old.seen v r was within, rises r within)
-      ];
-      shares = omega (arith, sum-set (λ (x : View). x.share) s.views id w view seat, counted.share, old.shares);
-      spent = λ v has none. elim (Contains-set s.views id w v has) [
-        | inl is ↦ absurd (share (sym counted.share ∙ sym (ap (λ (x : View). x.share) is) ∙ none))
-        | inr was ↦ old.spent v was none
-      ];
-      moves = omega (arith, sum-set (λ (x : View). length x.log) s.views id w view seat, counted.moves, old.moves);
-      logged = λ r step. omega (arith, sum-set (λ (x : View). times_in x.log r step) s.views id w view seat, counted.logged r step, old.logged r step);
-      reach = λ r within. elim (counted.reach r within) [
-        | inr far ↦ inr (w, new, far)
-        | inl same ↦ elim (old.reach r within) [
-          | inl low ↦ inl (omega (arith, same, low))
-          | inr some_view ↦ elim (set-keeps s.views id w view some_view.0 seat some_view.1) [
-            | inl is ↦ inr (w, new, omega (arith, same, some_view.2, ap (λ (x : View). x.reach) is, counted.further))
-            | inr has ↦ inr (some_view.0, has, omega (arith, same, some_view.2))
-          ]
-        ]
-      ];
-      alike = λ v has some_share. elim (Contains-set s.views id w v has) [
-        | inl is ↦ ap (λ (x : View). x.terms) is ∙ counted.alike ∙ old.alike view here share
-        | inr was ↦ old.alike v was some_share
-      ];
-    }
+    let old = works.standing in
+    elim (held-after s.views id view w hold new holds works.seat changed old.claims.one v h held) [
+      | inl is ↦ subst (IsRight net chart start words) (sym is) own
+      | inr other ↦
+          let there = old.claims.there other.1.0 h other.1.1 in
+          let was = all_right net chart start s old.steps old.rows other.1.0 h other.1.1 knows in
+          right-stays net chart start s.words words h (raised.others h.region there other.0) raised.rises
+          (λ j done. word h.region (h.step + 1) j there other.0 (omega (arith, done, was.few))) was
+    ]
+
+-- what the rule says of the hold
+working-right : (terms : Terms) (s : FieldState) (id : ℕ) (view : View) (hold : Hold) (holds : List Hold) → IsWorking terms s id view hold holds →
+    IsRight terms.setup.now.net terms.setup.now.chart terms.setup.now.start s.words hold
+working-right terms s id view hold holds works =
+    all_right terms.setup.now.net terms.setup.now.chart terms.setup.now.start s works.standing.steps works.standing.rows view hold (working-held terms s id view hold holds works) works.known
 
 -- the load of a border word keeps the rule
 pub border-read-keeps : (terms : Terms) (s : FieldState) (id : ℕ) (c : List (ℕ × RegionValue)) (view : View) (hold : Hold) (holds : List Hold) (q j : ℕ) → IsWorking terms s id view hold holds →
@@ -390,12 +308,6 @@ border-read-keeps terms s id c view hold holds q j works =
 -- all neighbours of a hold's region are cleared
 abbrev pub AllCleared : Terms → Hold → Type 0
 AllCleared terms hold = (q : ℕ) → are_neighbours terms.setup.now.net.connectors terms.setup.now.chart.cut hold.region q ≡ true → Contains hold.cleared q
-
--- then none stands lower
-none-lower : (terms : Terms) (s : FieldState) (id : ℕ) (view : View) (hold : Hold) (holds : List Hold) (q : ℕ) → IsWorking terms s id view hold holds → AllCleared terms hold →
-    are_neighbours terms.setup.now.net.connectors terms.setup.now.chart.cut hold.region q ≡ true → hold.step ≤ step_of terms.setup.now.chart s.words q
-none-lower terms s id view hold holds q works all near =
-    works.standing.steps.cleared view hold q (working-held terms s id view hold holds works) works.known (all q near)
 
 -- the hold with one more word written, and the hold whose step is published
 abbrev pub wrote_one : Hold → Hold
@@ -410,88 +322,7 @@ wrote-changed view hold holds held = record { before = held; after = ap (with_fi
 published-changed : (view : View) (hold : Hold) (holds : List Hold) (r n : ℕ) → view.holds ≡ hold ∷ holds → IsChanged view (published view r n) hold (published_one hold) holds
 published-changed view hold holds r n held = record { before = held; after = ap (with_first published_one) held; region = refl; known = refl; step = refl; cleared = refl }
 
--- one more word of the step to come is written: no word that a row of before needs is touched
-rows-wrote : (terms : Terms) (s : FieldState) (id : ℕ) (view : View) (hold : Hold) (holds : List Hold) (n : ℕ) → IsWorking terms s id view hold holds →
-    hold.written < width_at (widths_of terms.setup.now.chart) hold.region → AllCleared terms hold →
-    n ≡ grid_held terms.setup.now.net terms.setup.now.chart.cut terms.setup.now.start (hold.step + 1) (border_cell terms.setup.now.chart hold.region hold.written) →
-    Rows terms.setup.now.net terms.setup.now.chart terms.setup.now.start
-    (field_of s (set s.words (row_place (widths_of terms.setup.now.chart) hold.region ((hold.step + 1) % 2) hold.written) n) (set s.views id (wrote view)))
-rows-wrote terms s id view hold holds n works short all is_n =
-    let net : Network = terms.setup.now.net in
-    let chart : ChartLists = terms.setup.now.chart in
-    let start : StartLists = terms.setup.now.start in
-    let r : ℕ = hold.region in
-    let words : List ℕ = set s.words (row_place (widths_of chart) r ((hold.step + 1) % 2) hold.written) n in
-    let old = works.standing.rows in
-    let held = working-held terms s id view hold holds works in
-    let wide = length-widths_of chart works.charted in
-    let own : step_of chart s.words r ≡ hold.step = working-step terms s id view hold holds works in
-    let within : r < length (widths_of chart) = omega (arith, wide, working-there terms s id view hold holds works) in
-    let changed = wrote-changed view hold holds works.held in
-    let from = held-after s.views id view (wrote view) hold (wrote_one hold) holds works.seat changed works.standing.claims.one in
-    let there = works.standing.claims.there in
-    let step : (q : ℕ) → q < region_count chart.cut → step_of chart words q ≡ step_of chart s.words q =
-    λ q inside. border-set-step chart s.words r (hold.step + 1) hold.written q n within short (omega (arith, wide, inside)) in
-    let word : (q u j : ℕ) → q < region_count chart.cut → j < width_at (widths_of chart) q → (q ≡ r → u % 2 ≡ (hold.step + 1) % 2 → j ≡ hold.written → ⊥) →
-    border_word chart words q u j ≡ border_word chart s.words q u j =
-    λ q u j inside here apart. border-set-other chart s.words r (hold.step + 1) hold.written q u j n within short (omega (arith, wide, inside)) here apart in
-    record {
-      now = λ q j inside here. rw (step q inside)
-          (word q (step_of chart s.words q) j inside here (λ same parity place. omega (arith, ap (step_of chart s.words) same, own, parity)) ∙ old.now q j inside here);
-      before = λ p q u j near low high here.
-          let both = neighbours-there net chart p q near in
-          let low_before : step_of chart s.words q ≡ u = sym (step q both.1) ∙ low in
-          let high_before : step_of chart s.words p ≡ u + 1 = sym (step p both.0) ∙ high in
-          let apart : p ≢ r = λ same.
-          let near_own : are_neighbours net.connectors chart.cut r q ≡ true = subst (λ k. are_neighbours net.connectors chart.cut k q ≡ true) same near in
-          omega (arith, ap (step_of chart s.words) same, own, low_before, high_before, none-lower terms s id view hold holds q works all near_own) in
-          word p u j both.0 here (λ same parity place. apart same) ∙ old.before p q u j near low_before high_before here;
-      few = λ v h was knows. elim (from v h was) [
-        | inl is ↦ subst (λ (k : Hold). k.written ≤ width_at (widths_of chart) k.region) (sym is) (omega (arith, short))
-        | inr other ↦ old.few other.1.0 h other.1.1 knows
-      ];
-      written = λ v h j was knows. elim (from v h was) [
-        | inl is ↦
-            subst (λ (k : Hold). j < k.written → border_word chart words k.region (k.step + 1) j ≡ grid_held net chart.cut start (k.step + 1) (border_cell chart k.region j)) (sym is)
-            (λ done. elim (cases_eq j hold.written) [
-              | inl here ↦
-                  subst (λ i. border_word chart words r (hold.step + 1) i ≡ grid_held net chart.cut start (hold.step + 1) (border_cell chart r i)) (sym here)
-                  (border-set chart s.words r (hold.step + 1) hold.written n within short works.standing.claims.words ∙ is_n)
-              | inr earlier ↦
-                  word r (hold.step + 1) j (working-there terms s id view hold holds works) (omega (arith, done, short)) (λ same parity place. earlier place) ∙
-                  old.written view hold j held works.known (omega (arith, done, earlier))
-            ])
-        | inr other ↦ λ done.
-            word h.region (h.step + 1) j (there other.1.0 h other.1.1) (omega (arith, done, old.few other.1.0 h other.1.1 knows)) (λ same parity place. other.0 same) ∙
-            old.written other.1.0 h j other.1.1 knows done
-      ];
-      clear = λ v h q was knows. elim (from v h was) [
-        | inl is ↦
-            subst (λ (k : Hold). (k.written ≢ 0) ⊎ (k.published ≡ true) → are_neighbours net.connectors chart.cut k.region q ≡ true → Contains k.cleared q) (sym is)
-            (λ begun near. all q near)
-        | inr other ↦ old.clear other.1.0 h q other.1.1 knows
-      ];
-      whole = λ v h was knows. elim (from v h was) [
-        | inl is ↦
-            subst (λ (k : Hold). k.published ≡ true → k.written ≡ width_at (widths_of chart) k.region) (sym is)
-            (λ done. absurd (absurd-bool (sym works.early ∙ done)))
-        | inr other ↦ old.whole other.1.0 h other.1.1 knows
-      ];
-    }
-  where
-    absurd-bool : false ≡ true → ⊥
-    absurd-bool same = cc
-
--- sums over the regions
-range-below : (n : ℕ) (k d : ℕ) → k < length (range_with_len 0 n) → get_or (range_with_len 0 n) k d < n
-range-below n k d inside =
-    let within : k < n = omega (arith, inside, length-range_with_len 0 n) in
-    omega (arith, within, get_or-range_with_len 0 n k d within)
-
-sum-range-same : (f g : ℕ → ℕ) (n : ℕ) → ((p : ℕ) → p < n → f p ≡ g p) → sum_by f (range_with_len 0 n) ≡ sum_by g (range_with_len 0 n)
-sum-range-same f g n same = sum_by-same (λ p. p < n) f g (range_with_len 0 n) same (range-below n)
-
--- one term is one more
+-- a sum over the regions of which one term is one more
 sum-range-more : (f g : ℕ → ℕ) (n r : ℕ) → r < n → g r ≡ f r + 1 → ((p : ℕ) → p < n → p ≢ r → g p ≡ f p) →
     sum_by g (range_with_len 0 n) ≡ sum_by f (range_with_len 0 n) + 1
 sum-range-more f g n r within here others =
@@ -505,53 +336,79 @@ sum-range-more f g n r within here others =
     let second : sum_by both (range_with_len 0 n) ≡ sum_by f (range_with_len 0 n) + sum_by one (range_with_len 0 n) = sum_by_splits both f one (range_with_len 0 n) (λ p. refl) in
     omega (arith, first, second, sum_by_range_one 1 r 0 n (omega arith) (omega (arith, within)))
 
-steps_made-same : (chart : ChartLists) (start : StartLists) (before after : List ℕ) → ((q : ℕ) → q < region_count chart.cut → step_of chart after q ≡ step_of chart before q) →
-    steps_made chart start after ≡ steps_made chart start before
-steps_made-same chart start before after same =
-    sum-range-same (λ q. step_of chart after q - slice_index start.steps q) (λ q. step_of chart before q - slice_index start.steps q) (region_count chart.cut)
-    (λ q within. ap (λ step. step - slice_index start.steps q) (same q within))
-
 -- a written border word keeps the rule
 pub wrote-keeps : (terms : Terms) (s : FieldState) (id : ℕ) (c : List (ℕ × RegionValue)) (view : View) (hold : Hold) (holds : List Hold) (n : ℕ) → IsWorking terms s id view hold holds →
     hold.written < width_at (widths_of terms.setup.now.chart) hold.region → AllCleared terms hold →
     n ≡ grid_held terms.setup.now.net terms.setup.now.chart.cut terms.setup.now.start (hold.step + 1) (border_cell terms.setup.now.chart hold.region hold.written) →
     IsStanding terms (stepped s (row_place (widths_of terms.setup.now.chart) hold.region ((hold.step + 1) % 2) hold.written) n id c (wrote view) keeps)
 wrote-keeps terms s id c view hold holds n works short all is_n =
+    let net : Network = terms.setup.now.net in
     let chart : ChartLists = terms.setup.now.chart in
     let start : StartLists = terms.setup.now.start in
     let r : ℕ = hold.region in
     let place : ℕ = row_place (widths_of chart) r ((hold.step + 1) % 2) hold.written in
     let words : List ℕ = set s.words place n in
+    let after : FieldState = field_of s words (set s.views id (wrote view)) in
     let wide = length-widths_of chart works.charted in
     let own : step_of chart s.words r ≡ hold.step = working-step terms s id view hold holds works in
     let inside = working-there terms s id view hold holds works in
     let within : r < length (widths_of chart) = omega (arith, wide, inside) in
     let changed = wrote-changed view hold holds works.held in
     let old = works.standing in
+    let was = working-right terms s id view hold holds works in
     let step : (q : ℕ) → q < region_count chart.cut → step_of chart words q ≡ step_of chart s.words q =
     λ q there. border-set-step chart s.words r (hold.step + 1) hold.written q n within short (omega (arith, wide, there)) in
+    let word : (q u j : ℕ) → q < region_count chart.cut → j < width_at (widths_of chart) q → (q ≡ r → u % 2 ≡ (hold.step + 1) % 2 → j ≡ hold.written → ⊥) →
+    border_word chart words q u j ≡ border_word chart s.words q u j =
+    λ q u j there here apart. border-set-other chart s.words r (hold.step + 1) hold.written q u j n within short (omega (arith, wide, there)) here apart in
     let raised : AreRaised chart s.words words r = record { rises = λ q there. omega (arith, step q there); others = λ q there apart. step q there } in
-    let lawful : AreLawful terms.setup.now.net chart.cut (steps_of chart words) = subst (AreLawful terms.setup.now.net chart.cut) (sym (steps_of-same chart s.words words step)) old.steps.lawful in
-    let stays : step_of chart words r ≡ (if hold.published then hold.step + 1 else hold.step) = rw works.early (step r inside ∙ own) in
-    let has = Contains-elem s.views id view works.seat in
-    let counted : IsCounted terms s.words words view (wrote view) = record {
+    let right = right-worked terms s id view (wrote view) hold (wrote_one hold) holds words works changed raised (λ q u j there apart here. word q u j there here (λ same parity place. apart same)) record {
+      known = step r inside ∙ was.known;
+      around = was.around;
+      cleared = λ q has. omega (arith, was.cleared q has, step q ((neighbours-there net chart r q (was.around q has)).1));
+      few = omega (arith, short);
+      written = λ j done. elim (cases_eq j hold.written) [
+        | inl here ↦
+            subst (λ i. border_word chart words r (hold.step + 1) i ≡ grid_held net chart.cut start (hold.step + 1) (border_cell chart r i)) (sym here)
+            (border-set chart s.words r (hold.step + 1) hold.written n within short old.claims.words ∙ is_n)
+        | inr earlier ↦
+            word r (hold.step + 1) j inside (omega (arith, done, short)) (λ same parity place. earlier place) ∙ was.written j (omega (arith, done, earlier))
+      ];
+      clear = λ q begun near. all q near;
+      whole = λ done. absurd (absurd-bool (sym works.early ∙ done));
+    } in
+    let quiet : IsQuiet terms words view (wrote view) = record {
       alike = refl;
       share = refl;
-      lengths = refl;
-      seen = λ q there. omega (arith, step q there, old.counts.seen view q has there);
-      moves = omega (arith, steps_made-same chart start s.words words step);
-      logged = λ q u. omega (arith, times_made-same chart start s.words words q u step);
-      further = omega arith;
-      reach = λ q there. inl (step q there);
+      log = refl;
+      reach = refl;
+      long = refl;
+      seen = λ q there. omega (arith, step q there, old.counts.seen view q (Contains-elem s.views id view works.seat) there);
     } in
     record {
       claims = claims-worked terms s id view (wrote view) hold (wrote_one hold) holds words works changed (length-set s.words place n)
           (λ q there. border-set-claim chart s.words r (hold.step + 1) hold.written q n within short (omega (arith, wide, there)))
           (λ q there apart. step q there);
-      steps = steps-worked terms s id view (wrote view) hold (wrote_one hold) holds words works changed raised lawful stays;
-      rows = rows-wrote terms s id view hold holds n works short all is_n;
-      counts = counts-worked terms s id view (wrote view) words old works.seat works.share raised.rises counted;
+      steps = steps-right net chart start after (subst (AreLawful net chart.cut) (sym (steps_of-same chart s.words words step)) old.steps.lawful)
+          (λ q there. omega (arith, old.steps.started q there, step q there)) right;
+      -- no word that a row of before needs is touched
+      rows = rows-right net chart start after record {
+        now = λ q j there here. rw (step q there)
+            (word q (step_of chart s.words q) j there here (λ same parity place. omega (arith, ap (step_of chart s.words) same, own, parity)) ∙ old.rows.now q j there here);
+        before = λ p q u j near low high here.
+            let both = neighbours-there net chart p q near in
+            let low_before : step_of chart s.words q ≡ u = sym (step q both.1) ∙ low in
+            let high_before : step_of chart s.words p ≡ u + 1 = sym (step p both.0) ∙ high in
+            let apart : p ≢ r = λ same.
+            let near_own : are_neighbours net.connectors chart.cut r q ≡ true = subst (λ k. are_neighbours net.connectors chart.cut k q ≡ true) same near in
+            omega (arith, ap (step_of chart s.words) same, own, low_before, high_before, was.cleared q (all q near_own)) in
+            word p u j both.0 here (λ same parity place. apart same) ∙ old.rows.before p q u j near low_before high_before here;
+      } right;
+      counts = counts-after terms s words s.homes id view (wrote view) old.counts works.seat works.share (quiet-counted terms s.words words view (wrote view) step quiet);
     }
+  where
+    absurd-bool : false ≡ true → ⊥
+    absurd-bool same = cc
 
 steps_made-more : (chart : ChartLists) (start : StartLists) (before after : List ℕ) (r : ℕ) → r < region_count chart.cut → slice_index start.steps r ≤ step_of chart before r →
     step_of chart after r ≡ step_of chart before r + 1 → ((q : ℕ) → q < region_count chart.cut → q ≢ r → step_of chart after q ≡ step_of chart before q) →
@@ -623,85 +480,6 @@ published-raised terms s id view hold holds works =
       others = others;
     }
 
--- the row of a published step is the one that was written, and the one before stays
-rows-published : (terms : Terms) (s : FieldState) (id : ℕ) (view : View) (hold : Hold) (holds : List Hold) → IsWorking terms s id view hold holds →
-    hold.written ≡ width_at (widths_of terms.setup.now.chart) hold.region → AllCleared terms hold →
-    Rows terms.setup.now.net terms.setup.now.chart terms.setup.now.start
-    (field_of s (published_words terms.setup.now.chart s.words hold) (set s.views id (published view hold.region (hold.step + 1))))
-rows-published terms s id view hold holds works full all =
-    let net : Network = terms.setup.now.net in
-    let chart : ChartLists = terms.setup.now.chart in
-    let start : StartLists = terms.setup.now.start in
-    let r : ℕ = hold.region in
-    let words : List ℕ = published_words chart s.words hold in
-    let old = works.standing.rows in
-    let held = working-held terms s id view hold holds works in
-    let wide = length-widths_of chart works.charted in
-    let was : step_of chart s.words r ≡ hold.step = working-step terms s id view hold holds works in
-    let own : step_of chart words r ≡ hold.step + 1 = published-own terms s id view hold holds works in
-    let raised = published-raised terms s id view hold holds works in
-    let inside = working-there terms s id view hold holds works in
-    let changed = published-changed view hold holds r (hold.step + 1) works.held in
-    let from = held-after s.views id view (published view r (hold.step + 1)) hold (published_one hold) holds works.seat changed works.standing.claims.one in
-    let word : (q u j : ℕ) → q < region_count chart.cut → j < width_at (widths_of chart) q → border_word chart words q u j ≡ border_word chart s.words q u j =
-    λ q u j there here. step-set-border chart s.words r q u j (hold.step + 1) (omega (arith, wide, inside)) (omega (arith, wide, there)) here in
-    record {
-      now = λ q j there here. elim (cases_eq q r) [
-        | inl same ↦
-            let place : j < hold.written = omega (arith, here, full, ap (width_at (widths_of chart)) same) in
-            subst (λ k. border_word chart words k (step_of chart words k) j ≡ grid_held net chart.cut start (step_of chart words k) (border_cell chart k j)) (sym same)
-            (subst (λ u. border_word chart words r u j ≡ grid_held net chart.cut start u (border_cell chart r j)) (sym own)
-            (word r (hold.step + 1) j inside (omega (arith, place, full)) ∙ old.written view hold j held works.known place))
-        | inr apart ↦
-            subst (λ u. border_word chart words q u j ≡ grid_held net chart.cut start u (border_cell chart q j)) (sym (raised.others q there apart))
-            (word q (step_of chart s.words q) j there here ∙ old.now q j there here)
-      ];
-      before = λ p q u j near low high here.
-          let both = neighbours-there net chart p q near in
-          word p u j both.0 here ∙ elim (cases_eq p r) [
-            | inl same ↦
-                let stands : step_of chart s.words p ≡ u = omega (arith, ap (step_of chart words) same, ap (step_of chart s.words) same, own, was, high) in
-                subst (λ v. border_word chart s.words p v j ≡ grid_held net chart.cut start v (border_cell chart p j)) stands (old.now p j both.0 here)
-            | inr apart ↦
-                let high_before : step_of chart s.words p ≡ u + 1 = sym (raised.others p both.0 apart) ∙ high in
-                let other : q ≢ r = λ same.
-                omega (
-                  arith,
-                  ap (step_of chart words) same,
-                  ap (step_of chart s.words) same,
-                  own,
-                  was,
-                  low,
-                  high_before,
-                  steps-close net chart s.words p q works.standing.steps.lawful near,
-                ) in
-                old.before p q u j near (sym (raised.others q both.1 other) ∙ low) high_before here
-          ];
-      few = λ v h is_held knows. elim (from v h is_held) [
-        | inl is ↦ subst (λ (k : Hold). k.written ≤ width_at (widths_of chart) k.region) (sym is) (omega (arith, full))
-        | inr other ↦ old.few other.1.0 h other.1.1 knows
-      ];
-      written = λ v h j is_held knows. elim (from v h is_held) [
-        | inl is ↦
-            subst (λ (k : Hold). j < k.written → border_word chart words k.region (k.step + 1) j ≡ grid_held net chart.cut start (k.step + 1) (border_cell chart k.region j)) (sym is)
-            (λ done. word r (hold.step + 1) j inside (omega (arith, done, full)) ∙ old.written view hold j held works.known done)
-        | inr other ↦ λ done.
-            word h.region (h.step + 1) j (works.standing.claims.there other.1.0 h other.1.1) (omega (arith, done, old.few other.1.0 h other.1.1 knows)) ∙
-            old.written other.1.0 h j other.1.1 knows done
-      ];
-      clear = λ v h q is_held knows. elim (from v h is_held) [
-        | inl is ↦
-            subst (λ (k : Hold). (k.written ≢ 0) ⊎ (k.published ≡ true) → are_neighbours net.connectors chart.cut k.region q ≡ true → Contains k.cleared q) (sym is)
-            (λ begun near. all q near)
-        | inr other ↦ old.clear other.1.0 h q other.1.1 knows
-      ];
-      whole = λ v h is_held knows. elim (from v h is_held) [
-        | inl is ↦
-            subst (λ (k : Hold). k.published ≡ true → k.written ≡ width_at (widths_of chart) k.region) (sym is) (λ done. full)
-        | inr other ↦ old.whole other.1.0 h other.1.1 knows
-      ];
-    }
-
 -- a published step keeps the rule
 pub published-keeps : (terms : Terms) (s : FieldState) (id : ℕ) (c : List (ℕ × RegionValue)) (view : View) (hold : Hold) (holds : List Hold) → IsWorking terms s id view hold holds →
     hold.written ≡ width_at (widths_of terms.setup.now.chart) hold.region → AllCleared terms hold → hold.step < terms.setup.now.net.steps →
@@ -722,15 +500,29 @@ published-keeps terms s id c view hold holds works full all below =
     let raised = published-raised terms s id view hold holds works in
     let inside = working-there terms s id view hold holds works in
     let changed = published-changed view hold holds r (t + 1) works.held in
+    let after : FieldState = field_of s words (set s.views id w) in
+    let is = working-right terms s id view hold holds works in
+    let word : (q u j : ℕ) → q < region_count chart.cut → j < width_at (widths_of chart) q → border_word chart words q u j ≡ border_word chart s.words q u j =
+    λ q u j there here. step-set-border chart s.words r q u j (t + 1) (omega (arith, wide, inside)) (omega (arith, wide, there)) here in
+    let right = right-worked terms s id view w hold (published_one hold) holds words works changed raised (λ q u j there apart here. word q u j there here) record {
+      known = own;
+      around = is.around;
+      cleared = λ q has. omega (arith, is.cleared q has, raised.rises q ((neighbours-there net chart r q (is.around q has)).1));
+      few = is.few;
+      written = λ j done. word r (t + 1) j inside (omega (arith, done, full)) ∙ is.written j done;
+      clear = λ q begun near. all q near;
+      whole = λ done. full;
+    } in
     let lowest : (q : ℕ) → are_neighbours net.connectors chart.cut r q ≡ true → step_of chart s.words r ≤ step_of chart s.words q =
-    λ q near. omega (arith, was, none-lower terms s id view hold holds q works all near) in
+    λ q near. omega (arith, was, is.cleared q (all q near)) in
     let lawful = lawful-risen net chart s.words words r inside old.steps.lawful raised more (omega (arith, was, below)) lowest in
     let has = Contains-elem s.views id view works.seat in
     let long = old.counts.lengths view has works.share in
     let counted : IsCounted terms s.words words view w = record {
       alike = refl;
       share = refl;
-      lengths = length-set view.seen r (t + 1);
+      long = length-set view.seen r (t + 1);
+      rises = raised.rises;
       seen = λ q there. elim (cases_eq q r) [
         | inl same ↦
             subst (λ k. slice_index (set view.seen r (t + 1)) k ≤ step_of chart words k) (sym same)
@@ -753,7 +545,28 @@ published-keeps terms s id c view hold holds works full all below =
       claims = claims-worked terms s id view w hold (published_one hold) holds words works changed (length-set s.words (step_place (widths_of chart) r) (t + 1))
           (λ q there. step-set-claim chart s.words r q (t + 1) (omega (arith, wide, inside)) (omega (arith, wide, there)))
           raised.others;
-      steps = steps-worked terms s id view w hold (published_one hold) holds words works changed raised lawful own;
-      rows = rows-published terms s id view hold holds works full all;
-      counts = counts-worked terms s id view w words old works.seat works.share raised.rises counted;
+      steps = steps-right net chart start after lawful (λ q there. omega (arith, old.steps.started q there, raised.rises q there)) right;
+      -- the row of the published step is the one that was written, and the one before stays
+      rows = rows-right net chart start after record {
+        now = λ q j there here. elim (cases_eq q r) [
+          | inl same ↦
+              let place : j < hold.written = omega (arith, here, full, ap (width_at (widths_of chart)) same) in
+              subst (λ k. border_word chart words k (step_of chart words k) j ≡ grid_held net chart.cut start (step_of chart words k) (border_cell chart k j)) (sym same)
+              (rw own (word r (t + 1) j inside (omega (arith, place, full)) ∙ is.written j place))
+          | inr apart ↦ rw (raised.others q there apart) (word q (step_of chart s.words q) j there here ∙ old.rows.now q j there here)
+        ];
+        before = λ p q u j near low high here.
+            let both = neighbours-there net chart p q near in
+            word p u j both.0 here ∙ elim (cases_eq p r) [
+              | inl same ↦
+                  let stands : step_of chart s.words p ≡ u = omega (arith, ap (step_of chart words) same, ap (step_of chart s.words) same, own, was, high) in
+                  subst (λ v. border_word chart s.words p v j ≡ grid_held net chart.cut start v (border_cell chart p j)) stands (old.rows.now p j both.0 here)
+              | inr apart ↦
+                  let high_before : step_of chart s.words p ≡ u + 1 = sym (raised.others p both.0 apart) ∙ high in
+                  let other : q ≢ r = λ same.
+                  omega (arith, ap (step_of chart words) same, ap (step_of chart s.words) same, own, was, low, high_before, steps-close net chart s.words p q old.steps.lawful near) in
+                  old.rows.before p q u j near (sym (raised.others q both.1 other) ∙ low) high_before here
+            ];
+      } right;
+      counts = counts-after terms s words s.homes id view w old.counts works.seat works.share counted;
     }

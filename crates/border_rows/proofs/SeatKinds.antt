@@ -28,8 +28,7 @@ use Rattle.border_rows.specs.Words.{border_cell, border_word, claim_of, step_of,
 use Rattle.border_rows.specs.declared.view.Hold.{Hold}
 use Rattle.border_rows.specs.declared.view.Terms.{Terms}
 use Rattle.border_rows.specs.declared.view.View.{View}
-use Rattle.border_rows.proofs.Keeping.{neighbours-there}
-use Rattle.border_rows.proofs.LookKinds.{AreRight, all_right, rows-right, steps-right}
+use Rattle.border_rows.proofs.Keeping.{AreRight, all_right, neighbours-there, old-rows, rows-right, steps-right}
 use Rattle.border_rows.proofs.Logs.{times_in-append, times_made-none}
 use Rattle.border_rows.proofs.ViewUpdates.{Contains-elem, Contains-set, set-Contains, set-keeps, sum-set}
 
@@ -106,24 +105,15 @@ opening-stands terms words regions v lawful opens first seats =
         there = λ view hold holds. absurd (first-none terms v view hold first holds);
         at_home = λ r within unknown. home r within;
       };
-      steps = record {
-        lawful = subst (AreLawful net chart.cut) (sym (steps_of-start terms.setup.now words regions lawful opens)) lawful;
-        started = λ r within. omega (arith, opens.steps r within);
-        known = λ view hold holds knows. absurd (first-none terms v view hold first holds);
-        around = λ view hold q holds knows has. absurd (first-none terms v view hold first holds);
-        cleared = λ view hold q holds knows has. absurd (first-none terms v view hold first holds);
-      };
-      rows = record {
+      steps = steps-right net chart start (opening words regions v) (subst (AreLawful net chart.cut) (sym (steps_of-start terms.setup.now words regions lawful opens)) lawful)
+          (λ r within. omega (arith, opens.steps r within)) right;
+      rows = rows-right net chart start (opening words regions v) record {
         now = λ r j within inside.
             subst (λ t. border_word chart words r t j ≡ grid_held net chart.cut start t (border_cell chart r j)) (sym (opens.steps r within)) (opens.now r j within inside);
         before = λ r q t j near low high inside.
             let both = neighbours-there net chart r q near in
             opens.before r t j both.0 inside (sym (opens.steps r both.0) ∙ high);
-        few = λ view hold holds knows. absurd (first-none terms v view hold first holds);
-        written = λ view hold j holds knows done. absurd (first-none terms v view hold first holds);
-        clear = λ view hold q holds knows begun near. absurd (first-none terms v view hold first holds);
-        whole = λ view hold holds knows done. absurd (first-none terms v view hold first holds);
-      };
+      } right;
       counts = record {
         lengths = λ view has some. ap (λ (u : View). length u.seen) (one-Contains v view has) ∙ ap length first.seen ∙ lawful.one_each;
         seen = λ view r has within.
@@ -142,6 +132,9 @@ opening-stands terms words regions v lawful opens first seats =
       };
     }
   where
+    right : AreRight terms.setup.now.net terms.setup.now.chart terms.setup.now.start words (v ∷ [])
+    right view hold holds knows = absurd (first-none terms v view hold first holds)
+
     held : (r : ℕ) → holders (v ∷ []) r ≡ 0
     held r =
         let none : count_by (λ hold. hold.region == r) v.holds ≡ 0 = ap (count_by (λ (hold : Hold). hold.region == r)) first.holds in
@@ -185,8 +178,9 @@ standing-same terms s views old held knew before counts =
     all_right terms.setup.now.net terms.setup.now.chart terms.setup.now.start s old.steps old.rows was.0 hold was.1 knows in
     record {
       claims = claims-same terms.setup.now s views old.claims held knew before;
-      steps = steps-right terms.setup.now.net terms.setup.now.chart terms.setup.now.start s s.homes views old.steps right;
-      rows = rows-right terms.setup.now.net terms.setup.now.chart terms.setup.now.start s s.homes views old.rows right;
+      steps = steps-right terms.setup.now.net terms.setup.now.chart terms.setup.now.start (record { words = s.words; homes = s.homes; views = views }) old.steps.lawful old.steps.started right;
+      rows = rows-right terms.setup.now.net terms.setup.now.chart terms.setup.now.start (record { words = s.words; homes = s.homes; views = views })
+          (old-rows terms.setup.now.net terms.setup.now.chart terms.setup.now.start s old.rows) right;
       counts = counts;
     }
 
@@ -288,12 +282,6 @@ joined-sum : (f : View → ℕ) (views : List View) (id : ℕ) (view : View) (at
 joined-sum f views id view at other is also =
     omega (arith, sum-set f views id (united view other) view is, sum-set f (set views id (united view other)) at spent other also)
 
--- the new item stands at its place
-elem-set : {X : Type 0} (xs : List X) (i : ℕ) (x old : X) → get_elem? xs i ≡ some old → get_elem? (set xs i x) i ≡ some x
-elem-set [] i x old is = absurd cc
-elem-set (y ∷ ys) zero x old is = refl
-elem-set (y ∷ ys) (suc i) x old is = elem-set ys i x old is
-
 -- what is put together of two lists stands at its place
 together-at : (f : ℕ → ℕ → ℕ) (xs ys : List ℕ) (r : ℕ) → r < length xs → slice_index (together f xs ys) r ≡ f (slice_index xs r) (slice_index ys r)
 together-at f xs ys r within = get_or-map-range_with_len (λ i. f (slice_index xs i) (slice_index ys i)) 0 (length xs) r r 0 within (omega arith)
@@ -359,8 +347,10 @@ join-keeps terms s id view at other old is apart also shares others empty = stan
     long = old.counts.lengths view seat shares
 
     both : Contains (joined_views s.views id view at other) (united view other)
-    both = Contains-elem (joined_views s.views id view at other) id (united view other)
-        (set_else (set s.views id (united view other)) at id spent (λ same. apart (sym same)) ∙ elem-set s.views id (united view other) view is)
+    both = elim (set-keeps (set s.views id (united view other)) at spent other (united view other) also (set-Contains s.views id (united view other) view is)) [
+      | inl same ↦ absurd (shares (omega (arith, ap (λ (u : View). u.share) same)))
+      | inr has ↦ has
+    ]
 
     none-at : (r : ℕ) → slice_index spent.seen r ≡ 0
     none-at r = refl
