@@ -22,7 +22,7 @@ use Rattle.region_step.specs.declared.note.Note.{Note}
 use Rattle.region_step.proofs.Grids.{are_the_recurrences}
 use Rattle.region_step.proofs.Lists.{map_same}
 use Rattle.delay_report.specs.FromStart.{IsRecordedFromZero, grid_note, last_rows, report_from}
-use Rattle.delay_report.specs.Report.{cell_lines, note_lines, report_line, report_of, report_with, state_note, total_line}
+use Rattle.delay_report.specs.Report.{cell_lines, note_lines, report_line, report_of, report_with, total_line}
 use Rattle.delay_report.proofs.Lines.{note_lines-none, note_lines-same}
 use Rattle.delay_report.proofs.RecordedSteps.{recorded-none}
 
@@ -41,6 +41,10 @@ last_rows-true net cut start sound lawful true_start =
     let begun : slice_index start.steps (region_at cut i) ≤ net.steps = lawful.in_time (region_at cut i) 0 (omega (arith, region_at-there cut i, lawful.one_each)) in
     are_the_recurrences net cut start sound lawful true_start net.steps i (Contains-range cells i has) begun) ∙
     sym (fill_by_all (row_at (state_at net net.steps)) (state_at net net.steps) cells empty_row (length-state_at net net.steps) (λ k within. refl))
+
+-- what is noted of cell i at step t of the recurrences
+abbrev pub state_note : Network → (t i : ℕ) → Note
+state_note net t i = note_of (row_at (state_at net t) i)
 
 -- their recorded steps have the same lines
 notes-true : (setup : SetupValue) → IsNetwork setup.net → AreLawful setup.net setup.chart.cut setup.start.steps → IsTrueStart setup.net setup.chart.cut setup.start → IsRecordedFromZero setup →

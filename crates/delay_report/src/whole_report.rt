@@ -21,7 +21,7 @@ use std::alloc::Global;
 pub fn report(alloc: Global, regions: &Regions) -> Result<Vec<u8>, NoMemory>
     requires last { AreAtLast regions.now }
     requires from_zero { IsRecordedFromZero regions.now.setup }
-    ensures rows { IfOk result (λ text. text.items ≡ report_with regions.now.setup.net regions.now.setup.every
+    ensures text { IfOk result (λ text. text.items ≡ report_with regions.now.setup.net regions.now.setup.every
         (grid_note regions.now.setup.net regions.now.setup.chart.cut regions.now.setup.start)
         (last_rows regions.now.setup.net regions.now.setup.chart.cut regions.now.setup.start)) }
     ensures unrecorded { IfOk result (λ text. regions.now.setup.every ≡ 0 →

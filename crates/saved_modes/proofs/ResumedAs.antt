@@ -11,8 +11,8 @@ use Rattle.saved_run.specs.Reading.{content_of}
 use Rattle.saved_run.specs.SavedLength.{most_saved}
 use Rattle.saved_run.proofs.Starting.{decide_start}
 use Rattle.delay_report.specs.FromStart.{report_from}
-use Rattle.delay_report.specs.Report.{report_of, report_with, state_note}
-use Rattle.delay_report.proofs.FromStart.{last_rows-true, report_with-none}
+use Rattle.delay_report.specs.Report.{report_of, report_with}
+use Rattle.delay_report.proofs.FromStart.{last_rows-true, report_with-none, state_note}
 use Rattle.call_beginning.specs.NetworkInput.{why_of_network}
 use Rattle.saved_modes.specs.ResumedAs.{IsResumedAs}
 use Rattle.saved_modes.specs.ResumeMode.{IsGoneOn, why_by_content, why_by_cutting}
