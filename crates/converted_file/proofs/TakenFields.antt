@@ -2,15 +2,13 @@
 use Rattle.std.proofs.Common.{ℕ, ◌≡◌, ◌+◌, ◌-◌, List, Ok}
 use Rattle.std.specs.Prelude.{ok_or, All, Option, is_none}
 use Rattle.fixed_flow.specs.Spelling.{amount_of, whole_of}
-use Rattle.signal_plan.specs.Records.{PlanRecords}
 use Rattle.record_fields.specs.CellName.{is_name}
 use Rattle.network_file.specs.Cells.{cell_named}
 use Rattle.record_fields.specs.Fields.{whole_within, range_within, ratio, weights, amount_within}
-use Rattle.network_file.specs.CellFields.{new_name, known_cell, upstream, downstream, signal_cell, demand_gate, turn_cell, speed_road, region_cell}
+use Rattle.network_file.specs.CellFields.{new_name, known_cell, upstream, downstream}
 use Rattle.network_file.specs.declared.cell.Cell.{Cell}
 use Rattle.record_fields.specs.declared.code.Code.TheVariants.{BadName, BadNumber, Repeated, Unknown}
 use Rattle.network_file.specs.declared.connector.Connector.{Connector}
-use Rattle.record_fields.specs.declared.region_record.RegionRecord.{RegionRecord}
 use Rattle.record_fields.proofs.CheckLemmas.{bind-ok, must-ok, ok_or-some}
 use Rattle.converted_file.proofs.PlainText.{IsPlain, amount_of-plain, cell_named-plain, is_name-plain, whole_of-plain}
 
@@ -73,35 +71,5 @@ upstream-plain cells connectors earlier text i names taken =
 pub downstream-plain : (cells : List Cell) (connectors : List Connector) (earlier : Option ℕ) (text : List ℕ) (i : ℕ) → ArePlainNames cells → downstream cells connectors earlier text ≡ Ok i → IsPlain text
 unfolding downstream
 downstream-plain cells connectors earlier text i names taken =
-    let (cell, (known, rest)) = bind-ok (known_cell cells text) _ i taken in
-    known_cell-plain cells text cell names known
-
-pub signal_cell-plain : (cells : List Cell) (plan : PlanRecords) (text : List ℕ) (i : ℕ) → ArePlainNames cells → signal_cell cells plan text ≡ Ok i → IsPlain text
-unfolding signal_cell
-signal_cell-plain cells plan text i names taken =
-    let (cell, (known, rest)) = bind-ok (known_cell cells text) _ i taken in
-    known_cell-plain cells text cell names known
-
-pub demand_gate-plain : (cells : List Cell) (text : List ℕ) (i : ℕ) → ArePlainNames cells → demand_gate cells text ≡ Ok i → IsPlain text
-unfolding demand_gate
-demand_gate-plain cells text i names taken =
-    let (cell, (known, rest)) = bind-ok (known_cell cells text) _ i taken in
-    known_cell-plain cells text cell names known
-
-pub speed_road-plain : (cells : List Cell) (text : List ℕ) (i : ℕ) → ArePlainNames cells → speed_road cells text ≡ Ok i → IsPlain text
-unfolding speed_road
-speed_road-plain cells text i names taken =
-    let (cell, (known, rest)) = bind-ok (known_cell cells text) _ i taken in
-    known_cell-plain cells text cell names known
-
-pub turn_cell-plain : (cells : List Cell) (connectors : List Connector) (text : List ℕ) (i : ℕ) → ArePlainNames cells → turn_cell cells connectors text ≡ Ok i → IsPlain text
-unfolding turn_cell
-turn_cell-plain cells connectors text i names taken =
-    let (cell, (known, rest)) = bind-ok (known_cell cells text) _ i taken in
-    known_cell-plain cells text cell names known
-
-pub region_cell-plain : (cells : List Cell) (regions : List RegionRecord) (text : List ℕ) (i : ℕ) → ArePlainNames cells → region_cell cells regions text ≡ Ok i → IsPlain text
-unfolding region_cell
-region_cell-plain cells regions text i names taken =
     let (cell, (known, rest)) = bind-ok (known_cell cells text) _ i taken in
     known_cell-plain cells text cell names known

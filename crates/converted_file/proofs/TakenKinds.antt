@@ -1,22 +1,27 @@
 -- A record of each kind that is taken has plain fields, and is taken alike in another format.
 use Rattle.std.proofs.Common.{ℕ, zero, suc, ◌≡◌, ◌-◌, List, [], ◌∷◌, Ok, Some, None, refl, subst, ap}
-use Rattle.std.specs.Prelude.{Result, is_none}
+use Rattle.std.specs.Prelude.{Result, is_none, is_some, not}
+use Rattle.std.specs.List.{list_any}
 use Rattle.std.proofs.lemmas.List.Elements.{All-push}
 use Rattle.fixed_flow.specs.Limits.{most_parts, most_ratio}
+use Rattle.signal_plan.specs.Green.{signal_of}
 use Rattle.signal_plan.specs.Limits.{most_steps}
 use Rattle.network_file.specs.Draft.{Draft}
 use Rattle.record_fields.specs.Fields.{field, whole_within, range_within, ratio, weights, amount_within}
-use Rattle.network_file.specs.CellFields.{new_name, known_cell, upstream, downstream, signal_cell, demand_gate, turn_cell, speed_road, region_cell}
+use Rattle.record_fields.specs.Regions.{region_in}
+use Rattle.network_file.specs.CellFields.{new_name, known_cell, upstream, downstream}
+use Rattle.network_file.specs.Cells.{is_exit_at, is_gate_at, is_road_at}
+use Rattle.network_file.specs.Connectors.{diverges_from}
 use Rattle.network_file.specs.Taking.{take_demand, take_diverge, take_exit, take_gate, take_limit, take_link, take_merge, take_region, take_road, take_signal, take_speed, take_steps, take_turn}
 use Rattle.network_file.specs.Limits.{most_capacity, most_regions, most_room}
 use Rattle.network_file.specs.declared.cell.Cell.{Cell}
 use Rattle.network_file.specs.declared.cell.Kind.TheVariants as kind
 use Rattle.record_fields.specs.declared.code.Code.{Code}
-use Rattle.record_fields.specs.declared.code.Code.TheVariants.{Repeated}
+use Rattle.record_fields.specs.declared.code.Code.TheVariants.{Repeated, WrongKind}
 use Rattle.converted_file.proofs.PlainLines.{ArePlain}
 use Rattle.converted_file.proofs.PlainText.{IsPlain}
 use Rattle.record_fields.proofs.CheckLemmas.{bind-as, bind-ok, must-as, must-ok}
-use Rattle.converted_file.proofs.TakenFields.{ArePlainNames, whole_within-plain, range_within-plain, ratio-plain, weights-plain, amount_within-plain, new_name-plain, known_cell-plain, upstream-plain, downstream-plain, signal_cell-plain, demand_gate-plain, turn_cell-plain, speed_road-plain, region_cell-plain}
+use Rattle.converted_file.proofs.TakenFields.{ArePlainNames, whole_within-plain, range_within-plain, ratio-plain, weights-plain, amount_within-plain, new_name-plain, known_cell-plain, upstream-plain, downstream-plain}
 
 -- the same draft in another format
 abbrev pub in_format : ℕ → Draft → Draft
@@ -221,13 +226,15 @@ take_diverge-alike other draft more fields names taken =
 pub take_signal-alike : (other : ℕ) (draft more : Draft) (fields : List (List ℕ)) → ArePlainNames draft.cells → take_signal draft fields ≡ Ok more → IsTakenAlike other take_signal 5 draft fields more
 unfolding take_signal
 take_signal-alike other draft more fields names taken =
-    let (cell, (is_cell, taken1)) = bind-ok (signal_cell draft.cells draft.plan (field fields 1)) _ more taken in
+    let (cell, (is_cell, known)) = bind-ok (known_cell draft.cells (field fields 1)) _ more taken in
+    let (passed0, known1) = must-ok (not (is_exit_at draft.cells cell)) WrongKind _ more known in
+    let (passed1, taken1) = must-ok (not (is_some (signal_of draft.plan cell))) Repeated _ more known1 in
     let (cycle, (is_cycle, taken2)) = bind-ok (whole_within 1 most_steps (field fields 2)) _ more taken1 in
     let (offset, (is_offset, taken3)) = bind-ok (whole_within 0 (cycle - 1) (field fields 3)) _ more taken2 in
     let (range, (is_range, taken4)) = bind-ok (range_within cycle (field fields 4) (field fields 5)) _ more taken3 in
     let (plain_from, plain_to) = range_within-plain cycle (field fields 4) (field fields 5) range is_range in (
       (
-        signal_cell-plain draft.cells draft.plan (field fields 1) cell names is_cell,
+        known_cell-plain draft.cells (field fields 1) cell names is_cell,
         (
           whole_within-plain 1 most_steps (field fields 2) cycle is_cycle,
           (
@@ -240,11 +247,13 @@ take_signal-alike other draft more fields names taken =
         ),
       ),
       (
-        (bind-as (signal_cell draft.cells draft.plan (field fields 1)) _ cell _ is_cell
+        (bind-as (known_cell draft.cells (field fields 1)) _ cell _ is_cell
+            (must-as (not (is_exit_at draft.cells cell)) WrongKind _ _ passed0
+            (must-as (not (is_some (signal_of draft.plan cell))) Repeated _ _ passed1
             (bind-as (whole_within 1 most_steps (field fields 2)) _ cycle _ is_cycle
             (bind-as (whole_within 0 (cycle - 1) (field fields 3)) _ offset _ is_offset
             (bind-as (range_within cycle (field fields 4) (field fields 5)) _ range _ is_range
-            (same_in_format other _ more taken4))))),
+            (same_in_format other _ more taken4))))))),
         names_kept draft.format _ more refl taken4 names,
       ),
     )
@@ -278,12 +287,13 @@ take_limit-alike other draft more fields names taken =
 pub take_demand-alike : (other : ℕ) (draft more : Draft) (fields : List (List ℕ)) → ArePlainNames draft.cells → take_demand draft fields ≡ Ok more → IsTakenAlike other take_demand 4 draft fields more
 unfolding take_demand
 take_demand-alike other draft more fields names taken =
-    let (gate, (is_gate, taken1)) = bind-ok (demand_gate draft.cells (field fields 1)) _ more taken in
+    let (gate, (is_gate, known)) = bind-ok (known_cell draft.cells (field fields 1)) _ more taken in
+    let (passed0, taken1) = must-ok (is_gate_at draft.cells gate) WrongKind _ more known in
     let (range, (is_range, taken2)) = bind-ok (range_within most_steps (field fields 2) (field fields 3)) _ more taken1 in
     let (plain_from, plain_to) = range_within-plain most_steps (field fields 2) (field fields 3) range is_range in
     let (amount, (is_amount, taken3)) = bind-ok (amount_within most_parts (field fields 4)) _ more taken2 in (
       (
-        demand_gate-plain draft.cells (field fields 1) gate names is_gate,
+        known_cell-plain draft.cells (field fields 1) gate names is_gate,
         (
           plain_from,
           (
@@ -293,10 +303,11 @@ take_demand-alike other draft more fields names taken =
         ),
       ),
       (
-        (bind-as (demand_gate draft.cells (field fields 1)) _ gate _ is_gate
+        (bind-as (known_cell draft.cells (field fields 1)) _ gate _ is_gate
+            (must-as (is_gate_at draft.cells gate) WrongKind _ _ passed0
             (bind-as (range_within most_steps (field fields 2) (field fields 3)) _ range _ is_range
             (bind-as (amount_within most_parts (field fields 4)) _ amount _ is_amount
-            (same_in_format other _ more taken3)))),
+            (same_in_format other _ more taken3))))),
         names_kept draft.format _ more refl taken3 names,
       ),
     )
@@ -304,13 +315,14 @@ take_demand-alike other draft more fields names taken =
 pub take_turn-alike : (other : ℕ) (draft more : Draft) (fields : List (List ℕ)) → ArePlainNames draft.cells → take_turn draft fields ≡ Ok more → IsTakenAlike other take_turn 5 draft fields more
 unfolding take_turn
 take_turn-alike other draft more fields names taken =
-    let (cell, (is_cell, taken1)) = bind-ok (turn_cell draft.cells draft.connectors (field fields 1)) _ more taken in
+    let (cell, (is_cell, known)) = bind-ok (known_cell draft.cells (field fields 1)) _ more taken in
+    let (passed0, taken1) = must-ok (list_any (diverges_from cell) draft.connectors) WrongKind _ more known in
     let (range, (is_range, taken2)) = bind-ok (range_within most_steps (field fields 2) (field fields 3)) _ more taken1 in
     let (plain_from, plain_to) = range_within-plain most_steps (field fields 2) (field fields 3) range is_range in
     let (pair, (is_pair, taken3)) = bind-ok (weights most_ratio (field fields 4) (field fields 5)) _ more taken2 in
     let (plain_first, plain_second) = weights-plain most_ratio (field fields 4) (field fields 5) pair is_pair in (
       (
-        turn_cell-plain draft.cells draft.connectors (field fields 1) cell names is_cell,
+        known_cell-plain draft.cells (field fields 1) cell names is_cell,
         (
           plain_from,
           (
@@ -323,10 +335,11 @@ take_turn-alike other draft more fields names taken =
         ),
       ),
       (
-        (bind-as (turn_cell draft.cells draft.connectors (field fields 1)) _ cell _ is_cell
+        (bind-as (known_cell draft.cells (field fields 1)) _ cell _ is_cell
+            (must-as (list_any (diverges_from cell) draft.connectors) WrongKind _ _ passed0
             (bind-as (range_within most_steps (field fields 2) (field fields 3)) _ range _ is_range
             (bind-as (weights most_ratio (field fields 4) (field fields 5)) _ pair _ is_pair
-            (same_in_format other _ more taken3)))),
+            (same_in_format other _ more taken3))))),
         names_kept draft.format _ more refl taken3 names,
       ),
     )
@@ -334,13 +347,14 @@ take_turn-alike other draft more fields names taken =
 pub take_speed-alike : (other : ℕ) (draft more : Draft) (fields : List (List ℕ)) → ArePlainNames draft.cells → take_speed draft fields ≡ Ok more → IsTakenAlike other take_speed 5 draft fields more
 unfolding take_speed
 take_speed-alike other draft more fields names taken =
-    let (cell, (is_cell, taken1)) = bind-ok (speed_road draft.cells (field fields 1)) _ more taken in
+    let (cell, (is_cell, known)) = bind-ok (known_cell draft.cells (field fields 1)) _ more taken in
+    let (passed0, taken1) = must-ok (is_road_at draft.cells cell) WrongKind _ more known in
     let (range, (is_range, taken2)) = bind-ok (range_within most_steps (field fields 2) (field fields 3)) _ more taken1 in
     let (plain_from, plain_to) = range_within-plain most_steps (field fields 2) (field fields 3) range is_range in
     let (pair, (is_pair, taken3)) = bind-ok (ratio most_ratio (field fields 4) (field fields 5)) _ more taken2 in
     let (plain_first, plain_second) = ratio-plain most_ratio (field fields 4) (field fields 5) pair is_pair in (
       (
-        speed_road-plain draft.cells (field fields 1) cell names is_cell,
+        known_cell-plain draft.cells (field fields 1) cell names is_cell,
         (
           plain_from,
           (
@@ -353,10 +367,11 @@ take_speed-alike other draft more fields names taken =
         ),
       ),
       (
-        (bind-as (speed_road draft.cells (field fields 1)) _ cell _ is_cell
+        (bind-as (known_cell draft.cells (field fields 1)) _ cell _ is_cell
+            (must-as (is_road_at draft.cells cell) WrongKind _ _ passed0
             (bind-as (range_within most_steps (field fields 2) (field fields 3)) _ range _ is_range
             (bind-as (ratio most_ratio (field fields 4) (field fields 5)) _ pair _ is_pair
-            (same_in_format other _ more taken3)))),
+            (same_in_format other _ more taken3))))),
         names_kept draft.format _ more refl taken3 names,
       ),
     )
@@ -364,16 +379,18 @@ take_speed-alike other draft more fields names taken =
 pub take_region-alike : (other : ℕ) (draft more : Draft) (fields : List (List ℕ)) → ArePlainNames draft.cells → take_region draft fields ≡ Ok more → IsTakenAlike other take_region 2 draft fields more
 unfolding take_region
 take_region-alike other draft more fields names taken =
-    let (cell, (is_cell, taken1)) = bind-ok (region_cell draft.cells draft.regions (field fields 1)) _ more taken in
+    let (cell, (is_cell, known)) = bind-ok (known_cell draft.cells (field fields 1)) _ more taken in
+    let (passed0, taken1) = must-ok (is_none (region_in draft.regions cell)) Repeated _ more known in
     let (number, (is_number, taken2)) = bind-ok (whole_within 0 (most_regions - 1) (field fields 2)) _ more taken1 in (
       (
-        region_cell-plain draft.cells draft.regions (field fields 1) cell names is_cell,
+        known_cell-plain draft.cells (field fields 1) cell names is_cell,
         (whole_within-plain 0 (most_regions - 1) (field fields 2) number is_number, tt),
       ),
       (
-        (bind-as (region_cell draft.cells draft.regions (field fields 1)) _ cell _ is_cell
+        (bind-as (known_cell draft.cells (field fields 1)) _ cell _ is_cell
+            (must-as (is_none (region_in draft.regions cell)) Repeated _ _ passed0
             (bind-as (whole_within 0 (most_regions - 1) (field fields 2)) _ number _ is_number
-            (same_in_format other _ more taken2))),
+            (same_in_format other _ more taken2)))),
         names_kept draft.format _ more refl taken2 names,
       ),
     )

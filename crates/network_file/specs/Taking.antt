@@ -1,18 +1,23 @@
 -- What each kind of record adds to the draft, or the first fault that it has there.
-use Rattle.std.specs.Prelude.{ℕ, ◌-◌, ◌==◌, List, Some, None, Result, Ok, is_none, nat_lt, length, ok_or}
+use Rattle.std.specs.Prelude.{ℕ, ◌-◌, ◌==◌, List, Some, None, Result, Ok, is_none, is_some, nat_lt, not, length, ok_or}
+use Rattle.std.specs.List.{list_any}
 use Rattle.fixed_flow.specs.Limits.{most_parts, most_ratio}
 use Rattle.signal_plan.specs.Counts.{counts_of}
+use Rattle.signal_plan.specs.Green.{signal_of}
 use Rattle.signal_plan.specs.Limits.{most_steps}
 use Rattle.record_fields.specs.Checks.{◌>>=◌, ◌>>◌, must}
 use Rattle.network_file.specs.Draft.{Draft, with_entry}
 use Rattle.record_fields.specs.Fields.{field, whole_within, range_within, ratio, weights, amount_within}
 use Rattle.record_fields.specs.RecordKinds.{field_count, record_kind_of}
-use Rattle.network_file.specs.CellFields.{new_name, known_cell, upstream, downstream, signal_cell, demand_gate, turn_cell, speed_road, region_cell}
+use Rattle.record_fields.specs.Regions.{region_in}
+use Rattle.network_file.specs.CellFields.{new_name, known_cell, upstream, downstream}
+use Rattle.network_file.specs.Cells.{is_exit_at, is_gate_at, is_road_at}
+use Rattle.network_file.specs.Connectors.{diverges_from}
 use Rattle.network_file.specs.Formats.{most_records}
 use Rattle.network_file.specs.Limits.{most_capacity, most_regions, most_room}
 use Rattle.network_file.specs.declared.cell.Kind.TheVariants as kind
 use Rattle.record_fields.specs.declared.code.Code.{Code}
-use Rattle.record_fields.specs.declared.code.Code.TheVariants.{BadKind, BadCount, TooMany, Repeated}
+use Rattle.record_fields.specs.declared.code.Code.TheVariants.{BadKind, BadCount, TooMany, Repeated, WrongKind}
 use Rattle.network_file.specs.declared.connector.Connector.TheVariants as connector
 use Rattle.network_file.specs.declared.entry.Entry.TheVariants as says
 use Rattle.record_fields.specs.declared.record_kind.RecordKind.{RecordKind}
@@ -86,7 +91,9 @@ take_diverge draft fields = do
 
 unfoldable pub take_signal : Draft → List (List ℕ) → Result Draft Code
 take_signal draft fields = do
-  cell ← signal_cell draft.cells draft.plan (field fields 1)
+  cell ← known_cell draft.cells (field fields 1)
+  must (not (is_exit_at draft.cells cell)) WrongKind
+  must (not (is_some (signal_of draft.plan cell))) Repeated
   cycle ← whole_within 1 most_steps (field fields 2)
   offset ← whole_within 0 (cycle - 1) (field fields 3)
   (from, to) ← range_within cycle (field fields 4) (field fields 5)
@@ -101,27 +108,31 @@ take_limit draft fields = do
 
 unfoldable pub take_demand : Draft → List (List ℕ) → Result Draft Code
 take_demand draft fields = do
-  gate ← demand_gate draft.cells (field fields 1)
+  gate ← known_cell draft.cells (field fields 1)
+  must (is_gate_at draft.cells gate) WrongKind
   (from, to) ← range_within most_steps (field fields 2) (field fields 3)
   amount ← amount_within most_parts (field fields 4)
   Ok (with_entry draft (says.Demand (record { cell = gate; from = from; to = to; amount = amount })))
 
 unfoldable pub take_turn : Draft → List (List ℕ) → Result Draft Code
 take_turn draft fields = do
-  cell ← turn_cell draft.cells draft.connectors (field fields 1)
+  cell ← known_cell draft.cells (field fields 1)
+  must (list_any (diverges_from cell) draft.connectors) WrongKind
   (from, to) ← range_within most_steps (field fields 2) (field fields 3)
   (b1, b2) ← weights most_ratio (field fields 4) (field fields 5)
   Ok (with_entry draft (says.Turn (record { cell = cell; from = from; to = to; b1 = b1; b2 = b2 })))
 
 unfoldable pub take_region : Draft → List (List ℕ) → Result Draft Code
 take_region draft fields = do
-  cell ← region_cell draft.cells draft.regions (field fields 1)
+  cell ← known_cell draft.cells (field fields 1)
+  must (is_none (region_in draft.regions cell)) Repeated
   number ← whole_within 0 (most_regions - 1) (field fields 2)
   Ok (with_entry draft (says.Region (record { cell = cell; number = number })))
 
 unfoldable pub take_speed : Draft → List (List ℕ) → Result Draft Code
 take_speed draft fields = do
-  road ← speed_road draft.cells (field fields 1)
+  road ← known_cell draft.cells (field fields 1)
+  must (is_road_at draft.cells road) WrongKind
   (from, to) ← range_within most_steps (field fields 2) (field fields 3)
   (num, den) ← ratio most_ratio (field fields 4) (field fields 5)
   Ok (with_entry draft (says.Speed (record { cell = road; from = from; to = to; num = num; den = den })))

@@ -9,10 +9,7 @@ ghost use Rattle.network_file.specs.Formats.{most_records};
 ghost use Rattle.network_file.specs.Taking.{take_demand, take_diverge, take_exit, take_gate, take_kind, take_limit, take_link, take_merge, take_record, take_region, take_road, take_signal, take_speed, take_steps, take_turn, taken_before};
 
 use crate::cell::{Cell, Kind};
-use crate::cell_fields::{
-    demand_gate, downstream, known_cell, new_name, region_cell, signal_cell, speed_road, turn_cell,
-    upstream,
-};
+use crate::cell_fields::{downstream, known_cell, new_name, upstream};
 use crate::connector::Connector;
 use crate::draft::NetDraft;
 use crate::entry::Entry;
@@ -197,7 +194,13 @@ fn read_signal(draft: &NetDraft, row: &FileRecord) -> Result<Entry, Refused<Code
     ensures answer { AnswersBy result (with_entry draft.now) (take_signal draft.now row.now) }
     ensures fits { IfOk result (FitsEntry draft.now) }
 {
-    let cell = signal_cell(&draft.cells, &*draft.plan, row.field(1))?;
+    let cell = known_cell(&draft.cells, row.field(1))?;
+    if draft.cells.is_exit(cell) {
+        return Err(Refused::Fault(Code::WrongKind));
+    }
+    if draft.plan.has_signal(cell) {
+        return Err(Refused::Fault(Code::Repeated));
+    }
     let cycle = whole_within(1, MOST_STEPS, row.field(2))?;
     let offset = whole_within(0, cycle - 1, row.field(3))?;
     let (from, to) = range_within(cycle, row.field(4), row.field(5))?;
@@ -233,7 +236,10 @@ fn read_demand(draft: &NetDraft, row: &FileRecord) -> Result<Entry, Refused<Code
     ensures answer { AnswersBy result (with_entry draft.now) (take_demand draft.now row.now) }
     ensures fits { IfOk result (FitsEntry draft.now) }
 {
-    let cell = demand_gate(&draft.cells, row.field(1))?;
+    let cell = known_cell(&draft.cells, row.field(1))?;
+    if !draft.cells.is_gate(cell) {
+        return Err(Refused::Fault(Code::WrongKind));
+    }
     let (from, to) = range_within(MOST_STEPS, row.field(2), row.field(3))?;
     let amount = amount_within(MOST_PARTS, row.field(4))?;
     Ok(Entry::Demand(Demand {
@@ -251,7 +257,10 @@ fn read_turn(draft: &NetDraft, row: &FileRecord) -> Result<Entry, Refused<Code>>
     ensures answer { AnswersBy result (with_entry draft.now) (take_turn draft.now row.now) }
     ensures fits { IfOk result (FitsEntry draft.now) }
 {
-    let cell = turn_cell(&draft.cells, &draft.connectors, row.field(1))?;
+    let cell = known_cell(&draft.cells, row.field(1))?;
+    if !draft.connectors.diverges_from(cell) {
+        return Err(Refused::Fault(Code::WrongKind));
+    }
     let (from, to) = range_within(MOST_STEPS, row.field(2), row.field(3))?;
     let (b1, b2) = weights(MOST_RATIO, row.field(4), row.field(5))?;
     Ok(Entry::Turn(Turn {
@@ -269,7 +278,10 @@ fn read_region(draft: &NetDraft, row: &FileRecord) -> Result<Entry, Refused<Code
     ensures answer { AnswersBy result (with_entry draft.now) (take_region draft.now row.now) }
     ensures fits { IfOk result (FitsEntry draft.now) }
 {
-    let cell = region_cell(&draft.cells, &draft.regions, row.field(1))?;
+    let cell = known_cell(&draft.cells, row.field(1))?;
+    if draft.regions.number_of(cell).is_some() {
+        return Err(Refused::Fault(Code::Repeated));
+    }
     let number = whole_within(0, MOST_REGIONS - 1, row.field(2))?;
     Ok(Entry::Region(RegionRecord { cell, number }))
 }
@@ -281,7 +293,10 @@ fn read_speed(draft: &NetDraft, row: &FileRecord) -> Result<Entry, Refused<Code>
     ensures answer { AnswersBy result (with_entry draft.now) (take_speed draft.now row.now) }
     ensures fits { IfOk result (FitsEntry draft.now) }
 {
-    let cell = speed_road(&draft.cells, row.field(1))?;
+    let cell = known_cell(&draft.cells, row.field(1))?;
+    if !draft.cells.is_road(cell) {
+        return Err(Refused::Fault(Code::WrongKind));
+    }
     let (from, to) = range_within(MOST_STEPS, row.field(2), row.field(3))?;
     let (num, den) = ratio(MOST_RATIO, row.field(4), row.field(5))?;
     Ok(Entry::Speed(Speed {
