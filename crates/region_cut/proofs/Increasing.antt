@@ -2,9 +2,10 @@
 use Rattle.std.specs.Prelude.{eqb, ◌||◌, ◌==◌}
 use Rattle.std.specs.List.{AllPairs, list_any, position_or_len}
 use Rattle.std.specs.List.Sorted.{IsStrictlyIncreasing}
-use Rattle.std.proofs.Common.{◌≡◌, ℕ, zero, suc, ◌<◌, ◌≤◌, inl, inr, Bool, true, false, List, [], ◌∷◌, length, get_or, refl, sym, ◌∙◌, arith}
+use Rattle.std.proofs.Common.{◌≡◌, ℕ, suc, ◌<◌, ◌≤◌, inl, inr, Bool, true, false, List, [], ◌∷◌, length, get_or, refl, sym, ◌∙◌, arith}
 use Rattle.std.proofs.lemmas.Bool.{cases_Bool, cases_lt, eq-eqb, eqb-true}
 use Rattle.std.proofs.lemmas.List.Kept.{AllPairs-from_increasing}
+use Rattle.std.proofs.lemmas.List.Sums.{position_or_len_is}
 use Rattle.region_cut.proofs.Anys.{Contains-from_test, apart}
 
 abbrev Rises : List ℕ → Type 0
@@ -75,14 +76,8 @@ rising xs up i j behind within = elim (cases_lt i j) [
 ]
 
 -- the place of a number in an increasing list is the first place at which it stands
-
-first_place : (xs : List ℕ) (k x : ℕ) → Rises xs → k < length xs → get_or xs k 0 ≡ x → position_or_len (λ j. j == x) xs ≡ k
-first_place [] k x up within here = absurd (omega arith)
-first_place (y ∷ ys) zero x up within here = let same : (y == x) ≡ true = eq-eqb y x here in rw same refl
-first_place (y ∷ ys) (suc k) x up within here =
-    let later : y < x = rw here at (up 0 (suc k) 0 (omega arith) within) in
-    let other : (y == x) ≡ false = apart y x (λ same. absurd (omega arith)) in
-    rw other (omega (arith, first_place ys k x (rises_on y ys up) (omega arith) here))
-
 pub position_is : (xs : List ℕ) (k x : ℕ) → IsStrictlyIncreasing xs → k < length xs → get_or xs k 0 ≡ x → position_or_len (λ j. j == x) xs ≡ k
-position_is xs k x up within here = first_place xs k x (AllPairs-from_increasing xs up) within here
+position_is xs k x up within here =
+    position_or_len_is (λ j. j == x) xs k 0 (omega arith)
+    (λ i before. apart (get_or xs i 0) x (λ same. absurd (omega (arith, AllPairs-from_increasing xs up i k 0 before within, same, here))))
+    (λ inside. eq-eqb (get_or xs k 0) x here)

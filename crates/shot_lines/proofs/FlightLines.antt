@@ -8,8 +8,9 @@ use Rattle.network_file.specs.Connectors.{connector_at}
 use Rattle.network_file.specs.Network.{Network}
 use Rattle.flow_model.specs.declared.row.Row.{Row}
 use Rattle.region_cut.proofs.Ranges.{filter_range_more}
-use Rattle.shot_lines.specs.ShotText.{flight_line, flight_lines}
+use Rattle.shot_lines.specs.ShotText.{flight_line}
 use Rattle.region_cut.specs.Joins.{crosses}
+use Rattle.snapshot.specs.Shots.{crossing}
 
 -- the lines of those of the first connectors, so many of them, that touch more than one region
 unfoldable pub flights_before : Network → (cut : List ℕ) → List Row → (connectors : ℕ) → List ℕ
@@ -20,8 +21,8 @@ pub flights_before-none : (net : Network) (cut : List ℕ) (rows : List Row) →
 unfolding flights_before
 flights_before-none net cut rows = refl
 
-pub flights_before-all : (net : Network) (cut : List ℕ) (rows : List Row) → flights_before net cut rows (length net.connectors) ≡ flight_lines net cut rows
-unfolding flights_before flight_lines
+pub flights_before-all : (net : Network) (cut : List ℕ) (rows : List Row) → flights_before net cut rows (length net.connectors) ≡ flat_map (flight_line net rows) (crossing net cut)
+unfolding flights_before
 flights_before-all net cut rows = refl
 
 -- one connector more

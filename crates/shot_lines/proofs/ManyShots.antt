@@ -1,7 +1,7 @@
 -- The shots of a run, one after the other.
 use Rattle.std.specs.Prelude.{flat_map}
 use Rattle.std.specs.List.{range_with_len}
-use Rattle.std.proofs.Common.{◌≡◌, ℕ, ◌+◌, ◌<◌, inl, inr, List, [], ◌∷◌, ◌++◌, length, refl, sym, ap, subst, ◌∙◌, arith}
+use Rattle.std.proofs.Common.{◌≡◌, ℕ, ◌+◌, ◌<◌, inl, inr, List, [], ◌∷◌, ◌++◌, length, sym, ap, subst, ◌∙◌, arith}
 use Rattle.std.proofs.Math.ListN.{get_or-append}
 use Rattle.std.proofs.Math.Seq.{get_or-append_seam}
 use Rattle.std.proofs.lemmas.Bool.{cases_eq}
@@ -10,8 +10,12 @@ use Rattle.network_file.specs.Network.{Network}
 use Rattle.line_fields.specs.Fields.{lines_of}
 use Rattle.line_fields.proofs.Lines.{lines_of-more, lines_of-same}
 use Rattle.region_cut.specs.Chart.{list_at}
-use Rattle.snapshot.specs.Shots.{IsShotBetween, goal_of}
-use Rattle.shot_lines.specs.Shots.{AreShots, shot_of}
+use Rattle.snapshot.specs.Shots.{IsShotBetween, goal_of, rows_at}
+use Rattle.shot_lines.specs.ShotText.{shot_lines}
+
+-- the text of a shot, whose rows are those of the plain recurrences
+abbrev pub shot_of : Network → (cut : List ℕ) → (number : ℕ) → (steps : List ℕ) → List ℕ
+shot_of net cut number steps = shot_lines net cut number steps (rows_at net cut steps)
 
 -- the text of the first shots, `count` of `shots` that are taken in all
 pub record AreFirstShots (net : Network) (cut : List ℕ) (shots count : ℕ) (text : List ℕ) : Type 0 where
@@ -19,10 +23,6 @@ pub record AreFirstShots (net : Network) (cut : List ℕ) (shots count : ℕ) (t
   pub one_each : length steps ≡ count
   pub each : (i : ℕ) → i < count → IsShotBetween net cut (goal_of net.steps shots i) (goal_of net.steps shots (i + 1)) (list_at steps i)
   pub lines : text ≡ flat_map (λ i. shot_of net cut (i + 1) (list_at steps i)) (range_with_len 0 count)
-
--- before the first shot
-pub shots-none : (net : Network) (cut : List ℕ) (shots : ℕ) → AreFirstShots net cut shots 0 []
-shots-none net cut shots = record { steps = []; one_each = refl; each = λ i none. absurd (omega (arith, none)); lines = refl }
 
 -- one shot more
 pub shots-more : (net : Network) (cut : List ℕ) (shots k : ℕ) (text steps : List ℕ) → AreFirstShots net cut shots k text →
@@ -46,7 +46,3 @@ shots-more net cut shots k text steps are next =
       lines = ap (λ begun. begun ++ shot_of net cut (k + 1) steps) (are.lines ∙ lines_of-same (line are.steps) (line all) k (λ i before. ap (shot_of net cut (i + 1)) (front i before))) ∙
           ap (λ taken. lines_of (line all) k ++ shot_of net cut (k + 1) taken) last ∙ sym (lines_of-more (line all) k);
     }
-
--- all of them
-pub shots-all : (net : Network) (cut : List ℕ) (shots : ℕ) (text : List ℕ) → AreFirstShots net cut shots shots text → AreShots net cut shots text
-shots-all net cut shots text are = record { steps = are.steps; one_each = are.one_each; each = are.each; lines = are.lines }

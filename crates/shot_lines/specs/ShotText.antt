@@ -2,7 +2,6 @@
 use Rattle.std.specs.Prelude.{ℕ, ◌++◌, List, codes, flat_map, length, slice_index}
 use Rattle.network_file.specs.Cells.{name_at}
 use Rattle.network_file.specs.Network.{Network}
-use Rattle.network_file.specs.declared.cell.Cell.{Cell}
 use Rattle.flow_model.specs.State.{row_at}
 use Rattle.flow_model.specs.declared.row.Row.{Row}
 use Rattle.flow_ledger.specs.Books.{books_of}
@@ -29,19 +28,10 @@ flight_line net rows k = codes "flight" ++ count_field k ++ signed_field (flight
 unfoldable pub cell_row_line : (name : List ℕ) → Row → List ℕ
 cell_row_line name row = codes "row," ++ row_fields name row ++ codes "\n"
 
--- one line for each region
-unfoldable pub region_lines : (steps : List ℕ) → List ℕ
-region_lines steps = lines_of (λ r. region_line r (slice_index steps r)) (length steps)
-
--- one for each connector that touches cells of more than one region
-unfoldable pub flight_lines : Network → (cut : List ℕ) → List Row → List ℕ
-flight_lines net cut rows = flat_map (flight_line net rows) (crossing net cut)
-
--- and one for each cell
-unfoldable pub cell_row_lines : List Cell → List Row → List ℕ
-cell_row_lines cells rows = lines_of (λ i. cell_row_line (name_at cells i) (row_at rows i)) (length cells)
-
--- shot `number` of a network cut so, by the steps of its regions and the rows of its cells
+-- shot `number` of a network cut so, by the steps of its regions and the rows of its cells: its books, a line for each region,
+-- one for each connector that touches cells of more than one region, and one for each cell
 unfoldable pub shot_lines : Network → (cut : List ℕ) → (number : ℕ) → (steps : List ℕ) → List Row → List ℕ
 shot_lines net cut number steps rows =
-    books_line number (books_of net rows) ++ region_lines steps ++ flight_lines net cut rows ++ cell_row_lines net.cells rows
+    books_line number (books_of net rows) ++ lines_of (λ r. region_line r (slice_index steps r)) (length steps)
+    ++ flat_map (flight_line net rows) (crossing net cut)
+    ++ lines_of (λ i. cell_row_line (name_at net.cells i) (row_at rows i)) (length net.cells)

@@ -1,6 +1,9 @@
 ghost use Rattle.std.specs.Prelude.{◌≡◌, ◌++◌, OnOk, length};
 ghost use Rattle.std.specs.Io.{StartsWith};
-ghost use Rattle.shot_lines.specs.ShotText.{cell_row_line, cell_row_lines};
+ghost use Rattle.network_file.specs.Cells.{name_at};
+ghost use Rattle.flow_model.specs.State.{row_at};
+ghost use Rattle.line_fields.specs.Fields.{lines_of};
+ghost use Rattle.shot_lines.specs.ShotText.{cell_row_line};
 
 use flow_model::Row;
 use line_fields::put_row_fields;
@@ -14,7 +17,7 @@ pub(crate) fn put_cell_row_lines(
     rows: &[Row],
 ) -> Result<(), NoMemory>
     requires { length rows.now ≡ length cells.now }
-    ensures lines { OnOk result (text.new.items ≡ text.old.items ++ cell_row_lines cells.now rows.now) }
+    ensures lines { OnOk result (text.new.items ≡ text.old.items ++ lines_of (λ i. cell_row_line (name_at cells.now i) (row_at rows.now i)) (length cells.now)) }
     ensures kept { StartsWith text.new.items text.old.items }
 {
     for (i, cell) in cells.iter().enumerate() {

@@ -1,6 +1,7 @@
-ghost use Rattle.std.specs.Prelude.{◌≡◌, ◌++◌, ◌<◌, OnOk, length};
+ghost use Rattle.std.specs.Prelude.{◌≡◌, ◌++◌, ◌<◌, OnOk, flat_map, length};
 ghost use Rattle.std.specs.Io.{StartsWith};
-ghost use Rattle.shot_lines.specs.ShotText.{flight_line, flight_lines};
+ghost use Rattle.snapshot.specs.Shots.{crossing};
+ghost use Rattle.shot_lines.specs.ShotText.{flight_line};
 
 use flow_ledger::flight;
 use flow_model::Row;
@@ -16,7 +17,7 @@ pub(crate) fn put_flight_lines(
     rows: &[Row],
 ) -> Result<(), NoMemory>
     requires rows { length rows.now ≡ length layout.now.net.cells }
-    ensures lines { OnOk result (text.new.items ≡ text.old.items ++ flight_lines layout.now.net layout.now.chart.cut rows.now) }
+    ensures lines { OnOk result (text.new.items ≡ text.old.items ++ flat_map (flight_line layout.now.net rows.now) (crossing layout.now.net layout.now.chart.cut)) }
     ensures kept { StartsWith text.new.items text.old.items }
 {
     let net = layout.net();

@@ -1,13 +1,14 @@
-ghost use Rattle.std.specs.Prelude.{◌≡◌, ◌++◌, OnOk};
+ghost use Rattle.std.specs.Prelude.{◌≡◌, ◌++◌, OnOk, length, slice_index};
 ghost use Rattle.std.specs.Io.{StartsWith};
-ghost use Rattle.shot_lines.specs.ShotText.{region_line, region_lines};
+ghost use Rattle.line_fields.specs.Fields.{lines_of};
+ghost use Rattle.shot_lines.specs.ShotText.{region_line};
 
 use line_fields::put_count;
 use no_memory::NoMemory;
 
 /// Appends a line for each region, by its step.
 pub(crate) fn put_region_lines(text: &mut Vec<u8>, steps: &[u64]) -> Result<(), NoMemory>
-    ensures lines { OnOk result (text.new.items ≡ text.old.items ++ region_lines steps.now) }
+    ensures lines { OnOk result (text.new.items ≡ text.old.items ++ lines_of (λ r. region_line r (slice_index steps.now r)) (length steps.now)) }
     ensures kept { StartsWith text.new.items text.old.items }
 {
     for r in 0..steps.len() {

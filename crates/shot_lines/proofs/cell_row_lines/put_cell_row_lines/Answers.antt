@@ -2,7 +2,6 @@ use Rattle.std.proofs.Common.{◌≡◌, length, rules, append_assoc, arith, ref
 use Rattle.std.proofs.Transfers.{starts_with_of_append, starts_with_trans}
 use Rattle.network_file.proofs.NetworkFacts.{name_at-read}
 use Rattle.line_fields.proofs.Lines.{lines_of-more, lines_of-none}
-use Rattle.shot_lines.specs.ShotText.{cell_row_lines}
 use Rattle.shot_lines.proofs.cell_row_lines.put_cell_row_lines.Goals as goal
 
 pub loop-i-init : goal.loop-i-init
@@ -21,7 +20,6 @@ pub returns-clause-kept : goal.returns-clause-kept
 returns-clause-kept c = starts_with_of_append _ _ _ c.loop-i.invariant
 
 pub returns-clause-lines : goal.returns-clause-lines
-unfolding cell_row_lines
 returns-clause-lines c =
     let all : c.loop-i.i ≡ length c.args.cells.now = omega arith in
     rw (c.loop-i.invariant, all) refl

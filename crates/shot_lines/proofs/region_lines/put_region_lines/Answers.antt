@@ -1,7 +1,6 @@
 use Rattle.std.proofs.Common.{◌≡◌, length, rules, append_assoc, arith, refl}
 use Rattle.std.proofs.Transfers.{starts_with_of_append, starts_with_trans}
 use Rattle.line_fields.proofs.Lines.{lines_of-more, lines_of-none}
-use Rattle.shot_lines.specs.ShotText.{region_lines}
 use Rattle.shot_lines.proofs.region_lines.put_region_lines.Goals as goal
 
 pub loop-r-init : goal.loop-r-init
@@ -18,7 +17,6 @@ pub returns-clause-kept : goal.returns-clause-kept
 returns-clause-kept c = starts_with_of_append _ _ _ c.loop-r.invariant
 
 pub returns-clause-lines : goal.returns-clause-lines
-unfolding region_lines
 returns-clause-lines c =
     let all : c.loop-r.r ≡ length c.args.steps.now = omega arith in
     rw (c.loop-r.invariant, all) refl
