@@ -20,16 +20,6 @@ pub record AreLastRuns (sizes : Sizes) (spans : List Span) (small large : ℕ) (
   pub whole : sum runs + start_of sizes.floor small large ≡ start_of sizes.floor sizes.smalls sizes.larges
   pub best : most spans sizes.floor small large + inside_runs spans (start_of sizes.floor small large) runs ≡ most spans sizes.floor sizes.smalls sizes.larges
 
-pub last-none : (sizes : Sizes) (spans : List Span) → AreLastRuns sizes spans sizes.smalls sizes.larges []
-last-none sizes spans = record {
-  in_smalls = omega arith;
-  in_larges = omega arith;
-  long = omega arith;
-  each = All-nil (IsSize sizes);
-  whole = omega arith;
-  best = omega arith;
-}
-
 pub last-small : (sizes : Sizes) (spans : List Span) (small large : ℕ) (runs : List ℕ) → AreLastRuns sizes spans small large runs → 1 ≤ small →
     most spans sizes.floor small large ≡ most spans sizes.floor (small - 1) large + inside spans (start_of sizes.floor (small - 1) large) sizes.floor →
     AreLastRuns sizes spans (small - 1) large (sizes.floor ∷ runs)
