@@ -15,7 +15,7 @@ use Rattle.region_cut.specs.Cuttings.{even_cutting, region_at}
 use Rattle.region_cut.proofs.EvenCutting.{even_cutting-IsCutting, length-even_cutting}
 use Rattle.cut_grow.specs.BestRuns.{IsBestIn}
 use Rattle.cut_grow.specs.CutConnectors.{cuts}
-use Rattle.cut_grow.specs.Grown.{IsCandidate, IsInRuns, runs_from}
+use Rattle.cut_grow.specs.Grown.{IsInRuns, runs_from}
 use Rattle.cut_grow.specs.Walk.{file_order}
 use Rattle.cut_grow.proofs.EvenSizes.{IsEvenSize, ceiling-even, ceiling-more}
 use Rattle.cut_grow.proofs.RunNumbers.{behind_first, in_first, length-runs_from, sum-cons}

@@ -2,7 +2,7 @@
 use Rattle.std.specs.Prelude.{All, reverse, sum}
 use Rattle.std.proofs.Common.{◌≡◌, ℕ, ◌≤◌, ◌+◌, ◌-◌, ◌*◌, List, [], ◌∷◌, ◌++◌, length, inl, inr, refl, ap, ◌∙◌, arith}
 use Rattle.std.proofs.lemmas.List.{reverse-append}
-use Rattle.std.proofs.lemmas.List.Elements.{All-cons, All-nil}
+use Rattle.std.proofs.lemmas.List.Elements.{All-cons}
 use Rattle.cut_grow.specs.BestRuns.{AreBestRuns, IsSize}
 use Rattle.cut_grow.specs.Most.{most, start_of}
 use Rattle.cut_grow.specs.Spans.{inside, inside_runs}

@@ -78,7 +78,7 @@ run_gains-requires-2-clause-within c =
     subst (AreWithin (length c.args.order.now)) (sym c.deref-3.ensures.value) (within (goal.at.run_gains-requires-2-clause-within c).In_ok-spans)
 
 pub table-requires : goal.table-requires
-table-requires c = record { gains = ready (goal.at.table-requires c).In_ok-large (few_spans (goal.at.table-requires c).In_ok-spans); }
+table-requires c = record { gains = ready (goal.at.table-requires c).In_ok-large (few_spans (goal.at.table-requires c).In_ok-spans) }
 
 pub best_runs-requires-clause-gains : goal.best_runs-requires-clause-gains
 best_runs-requires-clause-gains c = ready (goal.at.best_runs-requires-clause-gains c).In_ok-large (few_spans (goal.at.best_runs-requires-clause-gains c).In_ok-spans)
