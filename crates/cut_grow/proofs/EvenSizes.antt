@@ -5,7 +5,6 @@ use Rattle.std.proofs.Math.Nat.{div-eq_of_lt-le}
 use Rattle.std.proofs.lemmas.Bool.{cases_eq}
 use Rattle.std.proofs.lemmas.List.Elements.{All-weaker}
 use Rattle.cut_grow.specs.BestRuns.{IsSize}
-use Rattle.cut_grow.specs.Grown.{IsEvenSize}
 use Rattle.cut_grow.specs.Most.{start_of}
 use Rattle.cut_grow.specs.declared.sizes.Sizes.{Sizes}
 use Rattle.cut_grow.proofs.MostRuns.{AreSizes, larges_of, sizes-sum, smalls_of}
@@ -32,6 +31,10 @@ sizes-whole cells k some =
     whole : (floor larges smalls k cells : ℕ) → smalls + larges ≡ k → k * floor + larges ≡ cells → start_of floor smalls larges ≡ cells
     whole floor larges smalls k cells all is =
         let product : k * floor ≡ (smalls + larges) * floor = ap (λ n. n * floor) (sym all) in omega (arith, product)
+
+-- the floor or the ceiling of cells by k
+abbrev pub IsEvenSize : (cells k size : ℕ) → Type 0
+IsEvenSize cells k size = (size ≡ cells / k) ⊎ (size ≡ (cells + k - 1) / k)
 
 pub even-sizes : (cells k : ℕ) (sizes : List ℕ) → 1 ≤ k → All (IsEvenSize cells k) sizes → AreSizes (cells / k) sizes
 even-sizes cells k sizes some each =

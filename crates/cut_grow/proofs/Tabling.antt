@@ -16,9 +16,6 @@ same_row width a b c d first second same =
     let products : a * width ≡ c * width = ap (λ n. n * width) rows in
     (rows, omega (arith, same, products))
 
-pub table-none : (sizes : Sizes) (spans : List Span) → IsTable sizes spans []
-table-none sizes spans = record { each = λ small large in_rows in_row there. absurd (omega arith) }
-
 pub table-more : (sizes : Sizes) (spans : List Span) (best : List ℕ) (small large entry : ℕ) → IsTable sizes spans best → large ≤ sizes.larges →
     length best ≡ small * (sizes.larges + 1) + large → entry ≡ most spans sizes.floor small large → IsTable sizes spans (best ++ entry ∷ [])
 table-more sizes spans best small large entry before in_row long is = record {
@@ -40,9 +37,6 @@ pub entry-within : (sizes : Sizes) (small large : ℕ) → small ≤ sizes.small
 entry-within sizes small large in_rows in_row =
     let row : small * (sizes.larges + 1) ≤ sizes.smalls * (sizes.larges + 1) = mul-le-mul {n₁ = small} {m₁ = sizes.larges + 1} {n₂ = sizes.smalls} {m₂ = sizes.larges + 1} in_rows (omega arith) in
     omega (arith, row)
-
-pub table-small : (sizes : Sizes) → sizes.smalls + sizes.larges ≤ 512 → (sizes.smalls + 1) * (sizes.larges + 1) ≤ 513 * 513
-table-small sizes few = mul-le-mul {n₁ = sizes.smalls + 1} {m₁ = sizes.larges + 1} {n₂ = 513} {m₂ = 513} (omega arith) (omega arith)
 
 pub start-small : (sizes : Sizes) (small large : ℕ) → small < sizes.smalls → large ≤ sizes.larges →
     start_of sizes.floor small large + sizes.floor ≤ start_of sizes.floor sizes.smalls sizes.larges

@@ -2,7 +2,7 @@
 use Rattle.std.specs.Prelude.{All, reverse, sum}
 use Rattle.std.proofs.Common.{◌≡◌, ℕ, ◌≤◌, ◌+◌, ◌-◌, ◌*◌, List, [], ◌∷◌, ◌++◌, length, inl, inr, refl, ap, ◌∙◌, arith}
 use Rattle.std.proofs.lemmas.List.{reverse-append}
-use Rattle.std.proofs.lemmas.List.Elements.{All-cons, All-nil}
+use Rattle.std.proofs.lemmas.List.Elements.{All-cons}
 use Rattle.cut_grow.specs.BestRuns.{AreBestRuns, IsSize}
 use Rattle.cut_grow.specs.Most.{most, start_of}
 use Rattle.cut_grow.specs.Spans.{inside, inside_runs}
@@ -19,16 +19,6 @@ pub record AreLastRuns (sizes : Sizes) (spans : List Span) (small large : ℕ) (
   pub each : All (IsSize sizes) runs
   pub whole : sum runs + start_of sizes.floor small large ≡ start_of sizes.floor sizes.smalls sizes.larges
   pub best : most spans sizes.floor small large + inside_runs spans (start_of sizes.floor small large) runs ≡ most spans sizes.floor sizes.smalls sizes.larges
-
-pub last-none : (sizes : Sizes) (spans : List Span) → AreLastRuns sizes spans sizes.smalls sizes.larges []
-last-none sizes spans = record {
-  in_smalls = omega arith;
-  in_larges = omega arith;
-  long = omega arith;
-  each = All-nil (IsSize sizes);
-  whole = omega arith;
-  best = omega arith;
-}
 
 pub last-small : (sizes : Sizes) (spans : List Span) (small large : ℕ) (runs : List ℕ) → AreLastRuns sizes spans small large runs → 1 ≤ small →
     most spans sizes.floor small large ≡ most spans sizes.floor (small - 1) large + inside spans (start_of sizes.floor (small - 1) large) sizes.floor →

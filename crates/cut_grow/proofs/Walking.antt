@@ -16,7 +16,7 @@ use Rattle.region_cut.proofs.Ranges.{Contains-range}
 use Rattle.cut_grow.specs.Least.{IsLeast}
 use Rattle.cut_grow.specs.Orders.{IsPermutation}
 use Rattle.cut_grow.specs.Sides.{IsClosed, IsOpen, is_free}
-use Rattle.cut_grow.specs.Walk.{file_order, is_missing, is_missing_beside, is_open, next_of, walk_of, walk_to}
+use Rattle.cut_grow.specs.Walk.{file_order, is_missing, is_missing_beside, is_open, next_of, walk_to}
 use Rattle.cut_grow.proofs.Counted.{true-not_false}
 use Rattle.cut_grow.proofs.NextCells.{closed-from, next-beside, next-lowest, open-from}
 
@@ -297,7 +297,7 @@ pointed-lowest net order placed was_place was_lowest place lowest walking short 
 
 -- a walk as long as there are cells
 pub walking-all : (net : Network) (order : List ℕ) (placed : List Bool) (place lowest : ℕ) → IsWalking net order placed place lowest →
-    length order ≡ length net.cells → (order ≡ walk_of net) × IsPermutation (length net.cells) order
+    length order ≡ length net.cells → (order ≡ walk_to net (length net.cells)) × IsPermutation (length net.cells) order
 walking-all net order placed place lowest walking long = (
   walking.so_far ∙ ap (walk_to net) long,
   record {

@@ -31,10 +31,7 @@ unfoldable pub next_of : Network → (walk : List ℕ) → ℕ
 next_of net walk =
     option_map_or (λ x. least_cell net (is_missing_beside net walk x)) (find (is_open net walk) walk) (least_cell net (is_missing walk))
 
--- its first n cells; of the empty walk the least missing cell is cell 0
+-- its first n cells, of which there are as many as cells; of the empty walk the least missing cell is cell 0
 unfoldable pub walk_to : Network → (n : ℕ) → List ℕ
 walk_to net zero = []
 walk_to net (suc n) = walk_to net n ++ next_of net (walk_to net n) ∷ []
-
-abbrev pub walk_of : Network → List ℕ
-walk_of net = walk_to net (length net.cells)

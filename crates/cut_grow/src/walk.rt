@@ -1,6 +1,6 @@
 ghost use Rattle.std.specs.Prelude.{◌≡◌, IfOk, length};
 ghost use Rattle.cut_grow.specs.Orders.{IsPermutation};
-ghost use Rattle.cut_grow.specs.Walk.{walk_of};
+ghost use Rattle.cut_grow.specs.Walk.{walk_to};
 
 use crate::joints::Joints;
 use crate::lowest::first_free;
@@ -11,7 +11,7 @@ use std::alloc::Global;
 
 /// The walk over all cells of a network.
 pub(crate) fn walk(alloc: Global, net: &Net) -> Result<Vec<u32>, NoMemory>
-    ensures walk { IfOk result (λ order. order.items ≡ walk_of net.now) }
+    ensures walk { IfOk result (λ order. order.items ≡ walk_to net.now (length net.now.cells)) }
     ensures order { IfOk result (λ order. IsPermutation (length net.now.cells) order.items) }
 {
     let connectors = net.connectors.as_slice();

@@ -8,20 +8,27 @@ use Rattle.cut_grow.specs.Least.{IsLeast}
 use Rattle.cut_grow.specs.Sides.{AreThere, IsClosed, IsOpen, is_free}
 use Rattle.cut_grow.proofs.Connectors.{connectors-there}
 use Rattle.cut_grow.proofs.Walking.{IsPointed, IsWalking, pointed-beside, pointed-lowest, walking-all, walking-more, walking-none, lowest-below, open-least}
-use Rattle.cut_grow.proofs.walk.walk.Goals.{then-place-len, else-place-len}
+use Rattle.cut_grow.proofs.walk.walk.Goals.{After-as_slice-connectors, then-place-len, else-place-len}
 use Rattle.cut_grow.proofs.walk.walk.Goals as goal
+
+connectors : (c : After-as_slice-connectors) → c.as_slice-connectors.result.now ≡ c.args.net.now.connectors
+connectors c = c.as_slice-connectors.ensures.value ∙ ap (λ net. net.connectors) c.net.view_is
+
+-- their cells are there, as far as there are marks
+there : (c : After-as_slice-connectors) → (marks : ℕ) → marks ≡ length c.args.net.now.cells → AreThere marks c.as_slice-connectors.result.now
+there c marks long =
+    subst (AreThere marks) (sym (connectors c))
+    (subst (λ n. AreThere n c.args.net.now.connectors) (sym long) (connectors-there c.args.net.now (subst IsNetwork c.net.view_is c.net.invariant)))
 
 pub of-requires-clause-one_out : goal.of-requires-clause-one_out
 of-requires-clause-one_out c =
-    let sound : IsNetwork c.args.net.now = subst IsNetwork c.net.view_is c.net.invariant in
-    let connectors : c.as_slice-connectors.result.now ≡ c.args.net.now.connectors = c.as_slice-connectors.ensures.value ∙ ap (λ net. net.connectors) c.net.view_is in
-    subst (λ (cs : List Connector). (i : ℕ) → count_by (leads_out_of i) cs ≤ 1) (sym connectors) sound.sound.one_out
+    subst (λ (cs : List Connector). (i : ℕ) → count_by (leads_out_of i) cs ≤ 1) (sym (connectors (goal.at.of-requires-clause-one_out c).After-as_slice-connectors))
+    (subst IsNetwork c.net.view_is c.net.invariant).sound.one_out
 
 pub of-requires-clause-one_in : goal.of-requires-clause-one_in
 of-requires-clause-one_in c =
-    let sound : IsNetwork c.args.net.now = subst IsNetwork c.net.view_is c.net.invariant in
-    let connectors : c.as_slice-connectors.result.now ≡ c.args.net.now.connectors = c.as_slice-connectors.ensures.value ∙ ap (λ net. net.connectors) c.net.view_is in
-    subst (λ (cs : List Connector). (i : ℕ) → count_by (leads_into i) cs ≤ 1) (sym connectors) sound.sound.one_in
+    subst (λ (cs : List Connector). (i : ℕ) → count_by (leads_into i) cs ≤ 1) (sym (connectors (goal.at.of-requires-clause-one_in c).After-as_slice-connectors))
+    (subst IsNetwork c.net.view_is c.net.invariant).sound.one_in
 
 pub loop-init : goal.loop-init
 loop-init c =
@@ -38,19 +45,12 @@ loop-init c =
 
 pub first_open-place-requires-clause-there : goal.first_open-place-requires-clause-there
 first_open-place-requires-clause-there c =
-    let sound : IsNetwork c.args.net.now = subst IsNetwork c.net.view_is c.net.invariant in
-    let connectors : c.as_slice-connectors.result.now ≡ c.args.net.now.connectors = c.as_slice-connectors.ensures.value ∙ ap (λ net. net.connectors) c.net.view_is in
-    let long : length c.deref.result.now ≡ length c.args.net.now.cells = ap length c.deref.ensures.value ∙ c.loop.invariant.walking.one_each in
-    subst (AreThere (length c.deref.result.now)) (sym connectors)
-    (subst (λ n. AreThere n c.args.net.now.connectors) (sym long) (connectors-there c.args.net.now sound))
+    there (goal.at.first_open-place-requires-clause-there c).After-as_slice-connectors (length c.deref.result.now) (ap length c.deref.ensures.value ∙ c.loop.invariant.walking.one_each)
 
 pub least_beside-next-requires-clause-there : goal.least_beside-next-requires-clause-there
 least_beside-next-requires-clause-there c =
-    let sound : IsNetwork c.args.net.now = subst IsNetwork c.net.view_is c.net.invariant in
-    let connectors : c.as_slice-connectors.result.now ≡ c.args.net.now.connectors = c.as_slice-connectors.ensures.value ∙ ap (λ net. net.connectors) c.net.view_is in
-    let long : length c.deref-then-place-len.result.now ≡ length c.args.net.now.cells = ap length c.deref-then-place-len.ensures.value ∙ c.loop.invariant.walking.one_each in
-    subst (AreThere (length c.deref-then-place-len.result.now)) (sym connectors)
-    (subst (λ n. AreThere n c.args.net.now.connectors) (sym long) (connectors-there c.args.net.now sound))
+    there (goal.at.least_beside-next-requires-clause-there c).After-as_slice-connectors (length c.deref-then-place-len.result.now)
+    (ap length c.deref-then-place-len.ensures.value ∙ c.loop.invariant.walking.one_each)
 
 pub returns-clause-order : goal.returns-clause-order
 returns-clause-order c =
@@ -60,7 +60,7 @@ returns-clause-order c =
 
 pub loop-preserved : goal.loop-preserved
 loop-preserved c =
-    let connectors : c.as_slice-connectors.result.now ≡ c.args.net.now.connectors = c.as_slice-connectors.ensures.value ∙ ap (λ net. net.connectors) c.net.view_is in
+    let connectors = connectors (goal.at.loop-preserved c).After-as_slice-connectors in
     let marks : c.deref.result.now ≡ c.loop.placed.items = c.deref.ensures.value in
     let marks_again : c.deref-in-loop-2.result.now ≡ c.loop.placed.items = c.deref-in-loop-2.ensures.value in
     let listed : c.deref-in-loop.result.now ≡ c.loop.order.items = c.deref-in-loop.ensures.value in
@@ -106,7 +106,7 @@ loop-preserved c =
 
 pub index_mut-requires : goal.index_mut-requires
 index_mut-requires c =
-    let connectors : c.as_slice-connectors.result.now ≡ c.args.net.now.connectors = c.as_slice-connectors.ensures.value ∙ ap (λ net. net.connectors) c.net.view_is in
+    let connectors = connectors (goal.at.index_mut-requires c).After-as_slice-connectors in
     let marks : c.deref.result.now ≡ c.loop.placed.items = c.deref.ensures.value in
     let marks_again : c.deref-in-loop-2.result.now ≡ c.loop.placed.items = c.deref-in-loop-2.ensures.value in
     let listed : c.deref-in-loop.result.now ≡ c.loop.order.items = c.deref-in-loop.ensures.value in
