@@ -6,8 +6,8 @@ ghost use Rattle.region_body.specs.Speeds.{at_speeds, slowed_state, ratio_at};
 use crate::cell_state::CellState;
 use crate::speed_factor::SpeedFactor;
 
-/// The place of a cell whose link to the next one carries something at these speeds, looked for from this one on and round, or none where
-/// none does.
+/// The place of a cell whose link to the next one carries something at these speeds, looked for from this place on and round,
+/// or none where none does.
 pub(crate) fn moving(states: &[CellState], speeds: &[SpeedFactor], from: usize) -> Option<usize>
     requires sound { AreSound states.now }
     ensures { MatchOption result (MoveNothing states.now speeds.now) (MovesAt states.now speeds.now) }
