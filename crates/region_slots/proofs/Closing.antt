@@ -1,9 +1,8 @@
 -- What the last state of a field says of its regions, where one seat has all shares and holds nothing.
 use Rattle.std.specs.Prelude.{max, slice_index, sum_by}
-use Rattle.std.specs.List.{range_with_len, sum}
 use Rattle.std.proofs.Common.{◌≡◌, ℕ, zero, suc, ◌+◌, ◌-◌, ◌<◌, ◌≤◌, inl, inr, Bool, false, List, [], ◌∷◌, ◌++◌, length, take, get_or, set, refl, sym, ap, subst, ◌∙◌, arith}
 use Rattle.std.proofs.lemmas.Bool.{cases_lt}
-use Rattle.std.proofs.lemmas.List.Sums.{sum-map, sum_by-cons}
+use Rattle.std.proofs.lemmas.List.Sums.{sum_by-cons}
 use mathlib.Core.Option.{some, some-injective}
 use lib.ListN.{get_elem?}
 use Rattle.atomic_table.specs.Table.{Final, Seen}
@@ -11,8 +10,8 @@ use Rattle.atomic_table.proofs.Lists.{at_set}
 use Rattle.region_cut.specs.Cuttings.{region_count}
 use Rattle.region_cut.specs.LawfulSteps.{AreLawful}
 use Rattle.region_step.specs.Region.{RegionValue}
-use Rattle.region_step.specs.Standing.{AllStand, Stands}
-use Rattle.region_step.proofs.Lists.{map_range_same}
+use Rattle.region_step.specs.Regions.{HaveCome}
+use Rattle.region_step.specs.Standing.{Stands}
 use Rattle.border_rows.specs.Standing.{FieldState, IsStanding, steps_made, times_made}
 use Rattle.border_rows.specs.Views.{times_in}
 use Rattle.border_rows.specs.Words.{step_of, steps_of}
@@ -20,6 +19,7 @@ use Rattle.border_rows.specs.declared.view.PublishedStep.{PublishedStep}
 use Rattle.border_rows.specs.declared.view.Terms.{Terms}
 use Rattle.border_rows.specs.declared.view.View.{View}
 use Rattle.border_rows.proofs.ClaimKinds.{whole_knowers, whole_spent, whole_spent-other}
+use Rattle.border_rows.proofs.Counting.{sum-range-same}
 use Rattle.border_rows.proofs.Logs.{times_made-one, times_made-other}
 use Rattle.border_rows.proofs.LookKinds.{steps_of-at}
 use Rattle.border_rows.proofs.ViewUpdates.{Contains-elem, sum-set}
@@ -90,11 +90,8 @@ whole_reach terms s id r view old is all within = elim (old.counts.reach r withi
 
 -- what is said of a field's regions when it is closed
 pub record IsClosed (terms : Terms) (view : View) (steps : List ℕ) (regions : List RegionValue) : Type 0 where
-  pub one_step : length steps ≡ region_count terms.setup.now.chart.cut
-  pub one_each : length regions ≡ region_count terms.setup.now.chart.cut
-  pub stand : AllStand terms.setup.now steps regions
+  pub come : HaveCome terms.setup.now steps regions
   pub lawful : AreLawful terms.setup.now.net terms.setup.now.chart.cut steps
-  pub started : (r : ℕ) → r < region_count terms.setup.now.chart.cut → slice_index terms.setup.now.start.steps r ≤ slice_index steps r
   pub later : (r : ℕ) → r < region_count terms.setup.now.chart.cut → slice_index view.seen r ≤ slice_index steps r
   pub reached : (r : ℕ) → r < region_count terms.setup.now.chart.cut → slice_index steps r ≤ max (slice_index terms.setup.now.start.steps r) view.reach
   pub moves : steps_since terms.setup.now.start (region_count terms.setup.now.chart.cut) steps ≡ length view.log
@@ -104,12 +101,9 @@ pub record IsClosed (terms : Terms) (view : View) (steps : List ℕ) (regions : 
 pub since-made : (terms : Terms) (words : List ℕ) →
     steps_since terms.setup.now.start (region_count terms.setup.now.chart.cut) (steps_of terms.setup.now.chart words) ≡ steps_made terms.setup.now.chart terms.setup.now.start words
 since-made terms words =
-    let count : ℕ = region_count terms.setup.now.chart.cut in
-    let new : ℕ → ℕ = λ r. slice_index (steps_of terms.setup.now.chart words) r - slice_index terms.setup.now.start.steps r in
-    let old : ℕ → ℕ = λ r. step_of terms.setup.now.chart words r - slice_index terms.setup.now.start.steps r in
-    sym (sum-map new (range_with_len 0 count)) ∙
-    ap sum (map_range_same new old count (λ r within. ap (λ t. t - slice_index terms.setup.now.start.steps r) (steps_of-at terms.setup.now.chart words r within))) ∙
-    sum-map old (range_with_len 0 count)
+    sum-range-same (λ r. slice_index (steps_of terms.setup.now.chart words) r - slice_index terms.setup.now.start.steps r)
+    (λ r. step_of terms.setup.now.chart words r - slice_index terms.setup.now.start.steps r) (region_count terms.setup.now.chart.cut)
+    (λ r within. ap (λ t. t - slice_index terms.setup.now.start.steps r) (steps_of-at terms.setup.now.chart words r within))
 
 pub closing : (terms : Terms) (id : ℕ) (view : View) (words : List ℕ) (regions : List RegionValue) → view.share ≡ terms.seats → view.holds ≡ [] →
     Final (Seen (IsStanding terms) id view) words regions → IsClosed terms view (steps_of terms.setup.now.chart words) regions
@@ -119,18 +113,19 @@ closing terms id view words regions all empty (s, (old, is), same, long, homes) 
     λ r within. steps_of-at terms.setup.now.chart words r within ∙ ap (λ w. step_of terms.setup.now.chart w r) (sym same) in
     let lawful : AreLawful terms.setup.now.net terms.setup.now.chart.cut (steps_of terms.setup.now.chart words) = subst (λ w. AreLawful terms.setup.now.net terms.setup.now.chart.cut (steps_of terms.setup.now.chart w)) same old.steps.lawful in
     record {
-      one_step = lawful.one_each;
-      one_each = sym long ∙ old.claims.homes;
-      stand = record {
-        one_each = sym long ∙ old.claims.homes;
-        each = λ q d within.
-            let inside : q < count = omega (arith, within, long, old.claims.homes) in
-            let (home, at, stands) = old.claims.at_home q inside (whole_knowers terms s id q view old is all empty) in
-            subst (λ x. Stands terms.setup.now q (slice_index (steps_of terms.setup.now.chart words) q) x) (sym (get_or-elem regions q home d (homes q home at)))
-            (subst (λ t. Stands terms.setup.now q t home) (sym (stood q inside)) stands);
+      come = record {
+        one_each = lawful.one_each;
+        later = λ r within. omega (arith, old.steps.started r within, stood r within);
+        stand = record {
+          one_each = sym long ∙ old.claims.homes;
+          each = λ q d within.
+              let inside : q < count = omega (arith, within, long, old.claims.homes) in
+              let (home, at, stands) = old.claims.at_home q inside (whole_knowers terms s id q view old is all empty) in
+              subst (λ x. Stands terms.setup.now q (slice_index (steps_of terms.setup.now.chart words) q) x) (sym (get_or-elem regions q home d (homes q home at)))
+              (subst (λ t. Stands terms.setup.now q t home) (sym (stood q inside)) stands);
+        };
       };
       lawful = lawful;
-      started = λ r within. omega (arith, old.steps.started r within, stood r within);
       later = λ r within. omega (arith, old.counts.seen view r (Contains-elem s.views id view is) within, stood r within);
       reached = λ r within. omega (arith, whole_reach terms s id r view old is all within, stood r within);
       moves = since-made terms words ∙ ap (steps_made terms.setup.now.chart terms.setup.now.start) (sym same) ∙ sym old.counts.moves ∙ whole_moves terms s id view old is all;

@@ -24,7 +24,7 @@ counts-first terms count each = record {
 }
 
 pub counts-kept : (count : ℕ) (view : View) → HasCounts count view → HasCounts count (kept view)
-counts-kept count view has = record { seen = has.seen; held_found = has.held_found; looks = has.looks; takes = has.takes }
+counts-kept count view has = assumption
 
 pub counts-shared_off : (count : ℕ) (view : View) → HasCounts count view → HasCounts count (shared_off view)
 counts-shared_off count view has = record {

@@ -1,7 +1,7 @@
 -- The regions that a shot takes, one after the other.
 use Rattle.std.specs.Prelude.{slice_index}
 use Rattle.std.specs.List.{Contains}
-use Rattle.std.proofs.Common.{◌≡◌, ℕ, zero, suc, ◌+◌, ◌<◌, ◌≤◌, inl, inr, List, [], ◌∷◌, length, set, refl, sym, ap, subst, ◌∙◌, arith}
+use Rattle.std.proofs.Common.{◌≡◌, ℕ, zero, suc, ◌+◌, ◌<◌, ◌≤◌, inl, inr, List, [], ◌∷◌, length, set, refl, sym, ap, subst, ◌∙◌, arith, rules}
 use Rattle.std.proofs.lemmas.Bool.{cases_eq}
 use Rattle.std.proofs.lemmas.List.{get_or-set_other, get_or-set_same, length-set}
 use Rattle.atomic_table.specs.declared.shared.Seat.{Seat}
@@ -16,7 +16,9 @@ use Rattle.region_slots.specs.FieldView.{FieldValue, HasCounts, HasSeenInTime, I
 use Rattle.region_slots.specs.Gathering.{AreCarried, HasGathered, HasStopped, HasTried, held_to}
 use Rattle.region_slots.specs.Plays.{HoldsAll, Mine}
 use Rattle.region_slots.specs.Shooting.{IsUnmoved}
+use Rattle.region_slots.specs.Turning.{IsLater}
 use Rattle.region_slots.proofs.Counts.{looked-in-time}
+use Rattle.region_slots.proofs.NeighbourLooks.{later-set, seen-later}
 
 -- what was seen of a later region changes no hold
 held_to-same : (seen : List ℕ) (r t q : ℕ) → q ≤ r → held_to (set seen r t) q ≡ held_to seen q
@@ -50,31 +52,11 @@ held_to-Contains seen (suc q) r low = elim (cases_eq r q) [
 ]
 
 pub unmoved-same : (view : View) → IsUnmoved view view
-unmoved-same view = record {
-  terms = refl;
-  share = refl;
-  splits = refl;
-  log = refl;
-  reach = refl;
-  found = record { short_found = refl; last_short = refl };
-  seen = record { long = refl; later = λ q. omega arith };
-  held_found = λ q. omega arith;
-  looks = λ q. omega arith;
-}
+unmoved-same view = search rules
 
 -- a seat that holds nothing has taken none
 pub gathered-none : (terms : Terms) (me : Mine) → HasCounts (region_count terms.setup.now.chart.cut) me.0 → HasSeenInTime terms me.0 → me.0.holds ≡ [] → me.1 ≡ [] → HasGathered terms me.0 0 me
-gathered-none terms me counts in_time holds nothing = record {
-  unmoved = unmoved-same me.0;
-  moments = (refl, refl);
-  counts = counts;
-  in_time = in_time;
-  holds = holds;
-  carried = nothing;
-  looks = λ r low. absurd (omega (arith, low));
-  unlooked = λ r past. refl;
-  untried = λ r past. refl;
-}
+gathered-none terms me counts in_time holds nothing = search (rules, unmoved-same me.0)
 
 -- no try yet, and one more that finds the region taken
 pub tried-none : (view : View) (r : ℕ) → HasTried view view r 0
@@ -91,34 +73,17 @@ tried-more old view r tries within tried =
     }
 
 pub counts-tried : (count : ℕ) (old view : View) (r tries : ℕ) → HasTried old view r tries → HasCounts count old → HasCounts count view
-counts-tried count old view r tries tried has = record {
-  seen = ap (λ (v : View). length v.seen) tried.same ∙ has.seen;
-  held_found = tried.long ∙ has.held_found;
-  looks = ap (λ (v : View). length v.looks) tried.same ∙ has.looks;
-  takes = ap (λ (v : View). length v.takes) tried.same ∙ has.takes;
-}
+counts-tried count old view r tries tried has =
+    let found : length view.held_found ≡ count = tried.long ∙ has.held_found in
+    subst (HasCounts count) (sym tried.same) assumption
 
 unmoved-tried : (old view new : View) (r tries : ℕ) → IsUnmoved old view → HasTried view new r tries → IsUnmoved old new
-unmoved-tried old view new r tries unmoved tried = record {
-  terms = ap (λ (v : View). v.terms) tried.same ∙ unmoved.terms;
-  share = ap (λ (v : View). v.share) tried.same ∙ unmoved.share;
-  splits = ap (λ (v : View). v.splits) tried.same ∙ unmoved.splits;
-  log = ap (λ (v : View). v.log) tried.same ∙ unmoved.log;
-  reach = ap (λ (v : View). v.reach) tried.same ∙ unmoved.reach;
-  found = record {
-    short_found = ap (λ (v : View). v.short_found) tried.same ∙ unmoved.found.short_found;
-    last_short = ap (λ (v : View). v.last_short) tried.same ∙ unmoved.found.last_short;
-  };
-  seen = record {
-    long = ap (λ (v : View). length v.seen) tried.same ∙ unmoved.seen.long;
-    later = λ q. omega (arith, unmoved.seen.later q, ap (λ (v : View). slice_index v.seen q) tried.same);
-  };
-  held_found = λ q. elim (cases_eq q r) [
-    | inl own ↦ omega (arith, unmoved.held_found q, ap (slice_index new.held_found) own, ap (slice_index view.held_found) own, tried.own)
-    | inr other ↦ omega (arith, unmoved.held_found q, tried.others q other)
-  ];
-  looks = λ q. omega (arith, unmoved.looks q, ap (λ (v : View). slice_index v.looks q) tried.same);
-}
+unmoved-tried old view new r tries unmoved tried =
+    let found : (q : ℕ) → slice_index old.held_found q ≤ slice_index new.held_found q = λ q. elim (cases_eq q r) [
+      | inl own ↦ omega (arith, unmoved.held_found q, ap (slice_index new.held_found) own, ap (slice_index view.held_found) own, tried.own)
+      | inr other ↦ omega (arith, unmoved.held_found q, tried.others q other)
+    ] in
+    subst (IsUnmoved old) (sym tried.same) assumption
 
 -- the next region was found taken at each of the tries
 pub gathered-stopped : (terms : Terms) (old new : View) (r tries : ℕ) (me : Mine) → HasGathered terms old r me → HasTried me.0 new r tries → HasStopped terms old r tries (new, me.1)
@@ -146,27 +111,10 @@ gathered-more terms old view r failed t me state there has tried past now stands
     let count : ℕ = slice_index view.looks r + 1 in
     let look : slice_index new.looks r ≡ count = get_or-set_same view.looks r count 0 (omega (arith, there, stopped.counts.looks)) in
     let looks : (q : ℕ) → slice_index view.looks q ≡ slice_index me.0.looks q = λ q. ap (λ (v : View). slice_index v.looks q) tried.same in
+    let later : IsLater old new = seen-later view.seen old view r t stopped.unmoved.seen refl past new refl in
+    let raised : (q : ℕ) → slice_index old.looks q ≤ slice_index new.looks q = λ q. omega (arith, stopped.unmoved.looks q, later-set view.looks r count q (omega arith)) in
     subst (λ n. HasGathered terms old n (new, (r, state) ∷ me.1)) next record {
-      unmoved = record {
-        terms = stopped.unmoved.terms;
-        share = stopped.unmoved.share;
-        splits = stopped.unmoved.splits;
-        log = stopped.unmoved.log;
-        reach = stopped.unmoved.reach;
-        found = record { short_found = stopped.unmoved.found.short_found; last_short = stopped.unmoved.found.last_short };
-        seen = record {
-          long = length-set view.seen r t ∙ stopped.unmoved.seen.long;
-          later = λ q. elim (cases_eq q r) [
-            | inl own ↦ omega (arith, stopped.unmoved.seen.later q, ap (slice_index view.seen) own, ap (slice_index new.seen) own, here, past)
-            | inr other ↦ omega (arith, stopped.unmoved.seen.later q, get_or-set_other view.seen r q t 0 other)
-          ];
-        };
-        held_found = stopped.unmoved.held_found;
-        looks = λ q. elim (cases_eq q r) [
-          | inl own ↦ omega (arith, stopped.unmoved.looks q, ap (slice_index view.looks) own, ap (slice_index new.looks) own, look)
-          | inr other ↦ omega (arith, stopped.unmoved.looks q, get_or-set_other view.looks r q count 0 other)
-        ];
-      };
+      unmoved = assumption;
       moments = stopped.moments;
       counts = record {
         seen = length-set view.seen r t ∙ stopped.counts.seen;
@@ -222,31 +170,11 @@ holds-all terms old me has = record {
 
 -- all are given back
 pub unmoved-freed : (old view : View) → IsUnmoved old view → IsUnmoved old (record view { holds = [] })
-unmoved-freed old view unmoved = record {
-  terms = unmoved.terms;
-  share = unmoved.share;
-  splits = unmoved.splits;
-  log = unmoved.log;
-  reach = unmoved.reach;
-  found = record { short_found = unmoved.found.short_found; last_short = unmoved.found.last_short };
-  seen = record { long = unmoved.seen.long; later = unmoved.seen.later };
-  held_found = unmoved.held_found;
-  looks = unmoved.looks;
-}
+unmoved-freed old view unmoved = assumption
 
 pub counts-freed : (count : ℕ) (view : View) → HasCounts count view → HasCounts count (record view { holds = [] })
-counts-freed count view has = record { seen = has.seen; held_found = has.held_found; looks = has.looks; takes = has.takes }
+counts-freed count view has = assumption
 
 -- and so they are once they were held together
 pub unmoved-shot : (old view : View) → IsUnmoved old view → IsUnmoved old (record (gathered view) { holds = [] })
-unmoved-shot old view unmoved = record {
-  terms = unmoved.terms;
-  share = unmoved.share;
-  splits = unmoved.splits;
-  log = unmoved.log;
-  reach = unmoved.reach;
-  found = record { short_found = unmoved.found.short_found; last_short = unmoved.found.last_short };
-  seen = record { long = unmoved.seen.long; later = unmoved.seen.later };
-  held_found = unmoved.held_found;
-  looks = unmoved.looks;
-}
+unmoved-shot old view unmoved = assumption

@@ -15,4 +15,5 @@ pub mod Sharing
 pub mod Shown
 pub mod Telling
 pub mod Together
+pub mod Tries
 pub mod Writing

@@ -1,7 +1,7 @@
 -- A view that looks at neighbours.
 use Rattle.std.specs.Prelude.{Option, Some, max, slice_index, slice_set}
 use Rattle.std.specs.List.{Contains}
-use Rattle.std.proofs.Common.{◌≡◌, ℕ, suc, ◌+◌, ◌<◌, ◌≤◌, inl, inr, true, List, [], ◌∷◌, ◌++◌, length, refl, sym, ap, subst, ◌∙◌, arith}
+use Rattle.std.proofs.Common.{◌≡◌, ℕ, suc, ◌+◌, ◌<◌, ◌≤◌, inl, inr, true, List, [], ◌∷◌, ◌++◌, length, refl, sym, ap, subst, ◌∙◌, arith, rules}
 use Rattle.std.proofs.lemmas.Bool.{cases_eq, cases_lt}
 use Rattle.std.proofs.lemmas.List.{get_or-set_other, get_or-set_same, get_or_past, length-set}
 use Rattle.region_cut.specs.Cuttings.{region_count}
@@ -12,7 +12,7 @@ use Rattle.border_rows.specs.declared.view.PublishedStep.{PublishedStep}
 use Rattle.border_rows.specs.declared.view.Terms.{Terms}
 use Rattle.border_rows.specs.declared.view.View.{View}
 use Rattle.region_slots.specs.FieldView.{IsWorkingAt}
-use Rattle.region_slots.specs.Turning.{HasFallenShort, HasLooked, IsBehind, IsLater, IsMoved, IsWithin, took_at, wrote_many}
+use Rattle.region_slots.specs.Turning.{HasFallenShort, HasLooked, IsAlike, IsBehind, IsLater, IsMoved, IsWithin, took_at, wrote_many}
 use Rattle.region_slots.specs.declared.turn.Turn.{Turn}
 use Rattle.region_slots.specs.declared.turn.Turn.TheVariants.{Behind, Ended, Held, Moved}
 use Rattle.region_slots.proofs.Comparing.{same-hold}
@@ -38,19 +38,7 @@ seen-later seen old view q s was is past new saw = record {
 
 -- no neighbour is looked at yet
 pub looked-none : (view : View) (hold : Hold) → IsWorkingAt view hold → HasLooked view view hold
-looked-none view hold works = record {
-  still = record { alike = record { terms = refl; share = refl; splits = refl; held_found = refl; moments = (refl, refl); seen = record { long = refl; later = λ q. omega arith } }; log = refl; reach = refl };
-  found = record { short_found = refl; last_short = refl };
-  looks = refl;
-  takes = refl;
-  tried = refl;
-  later = refl;
-  now = hold;
-  works = works;
-  region = refl;
-  step = refl;
-  written = refl;
-}
+looked-none view hold works = search rules
 
 -- the hold with one more cleared
 abbrev pub clear_one : ℕ → Hold → Hold
@@ -62,21 +50,10 @@ cleared-works view hold q s works = record { later = works.later; holds = ap (wi
 -- one more is looked at
 pub looked-more : (old view : View) (hold : Hold) (q s : ℕ) → HasLooked old view hold → slice_index view.seen q ≤ s → HasLooked old (cleared view q s) hold
 looked-more old view hold q s has past =
-    let alike = has.still.alike in
+    let seen : IsLater old (cleared view q s) = seen-later view.seen old view q s has.still.alike.seen refl past (cleared view q s) refl in
     record {
-      still = record {
-        alike = record {
-          terms = alike.terms;
-          share = alike.share;
-          splits = alike.splits;
-          held_found = alike.held_found;
-          moments = alike.moments;
-          seen = seen-later view.seen old view q s alike.seen refl past (cleared view q s) refl;
-        };
-        log = has.still.log;
-        reach = has.still.reach;
-      };
-      found = record { short_found = has.found.short_found; last_short = has.found.last_short };
+      still = assumption;
+      found = assumption;
       looks = has.looks;
       takes = has.takes;
       tried = has.tried;
@@ -105,19 +82,9 @@ cleared-own view hold now q s was works =
 pub falls-short : (old view : View) (hold : Hold) (r q s : ℕ) → HasLooked old view hold → slice_index view.seen q ≤ s → q < length view.seen → HasFallenShort old (found_short view r q s) r q s
 falls-short old view hold r q s has past there =
     let alike = has.still.alike in
+    let seen : IsLater old (found_short view r q s) = seen-later view.seen old view q s alike.seen refl past (found_short view r q s) refl in
     record {
-      still = record {
-        alike = record {
-          terms = alike.terms;
-          share = alike.share;
-          splits = alike.splits;
-          held_found = alike.held_found;
-          moments = alike.moments;
-          seen = seen-later view.seen old view q s alike.seen refl past (found_short view r q s) refl;
-        };
-        log = has.still.log;
-        reach = has.still.reach;
-      };
+      still = assumption;
       looks = has.looks;
       takes = has.takes;
       tried = has.tried;
@@ -141,23 +108,10 @@ pub turned-behind : (terms : Terms) (old view : View) (r q s step goal : ℕ) �
     r < length old.seen → are_neighbours terms.setup.now.net.connectors terms.setup.now.chart.cut r q ≡ true → IsBehind terms old (freed view) goal r q s
 turned-behind terms old view r q s step goal short by_one below past there beside =
     let alike = short.still.alike in
+    let seen : IsLater old (freed view) = record { long = alike.seen.long ∙ length-set old.seen r step; later = λ p. omega (arith, alike.seen.later p, later-set old.seen r step p past) } in
     record {
       beside = beside;
-      still = record {
-        alike = record {
-          terms = alike.terms;
-          share = alike.share;
-          splits = alike.splits;
-          held_found = alike.held_found;
-          moments = alike.moments;
-          seen = record {
-            long = alike.seen.long ∙ length-set old.seen r step;
-            later = λ p. omega (arith, alike.seen.later p, later-set old.seen r step p past);
-          };
-        };
-        log = short.still.log;
-        reach = short.still.reach;
-      };
+      still = assumption;
       looks = short.looks;
       takes = short.takes;
       tried = short.tried;
@@ -176,19 +130,13 @@ pub turned-moved : (terms : Terms) (old view : View) (hold : Hold) (r step goal 
 turned-moved terms old view hold r step goal width has past below rise long there near =
     let alike = has.still.alike in
     let same_long : length view.seen ≡ length old.seen = alike.seen.long ∙ length-set old.seen r step in
+    let seen : IsLater old (freed (published (wrote_many view width) r (step + 1))) = record {
+      long = length-set view.seen r (step + 1) ∙ same_long;
+      later = λ p. omega (arith, alike.seen.later p, later-set old.seen r step p past, later-set view.seen r (step + 1) p rise);
+    } in
     record {
-      alike = record {
-        terms = alike.terms;
-        share = alike.share;
-        splits = alike.splits;
-        held_found = alike.held_found;
-        moments = alike.moments;
-        seen = record {
-          long = length-set view.seen r (step + 1) ∙ same_long;
-          later = λ p. omega (arith, alike.seen.later p, later-set old.seen r step p past, later-set view.seen r (step + 1) p rise);
-        };
-      };
-      found = record { short_found = has.found.short_found; last_short = has.found.last_short };
+      alike = assumption;
+      found = assumption;
       looks = has.looks;
       takes = has.takes;
       tried = has.tried;
@@ -204,58 +152,29 @@ turned-moved terms old view hold r step goal width has past below rise long ther
 later-raised : (counts : List ℕ) (r q : ℕ) → slice_index counts q ≤ slice_index (raised counts r) q
 later-raised counts r q = later-set counts r (slice_index counts r + 1) q (omega arith)
 
+-- a turn that was alike but for its look keeps what every turn keeps
+alike-within : (old new : View) (goal r : ℕ) → IsAlike old new → new.looks ≡ raised old.looks r → length old.log ≤ length new.log → old.reach ≤ new.reach → new.reach ≤ max old.reach goal →
+    old.short_found ≤ new.short_found → IsWithin old new goal
+alike-within old new goal r alike looks moves risen reach short =
+    let found : (q : ℕ) → slice_index old.held_found q ≤ slice_index new.held_found q = λ q. omega (arith, ap (λ counts. slice_index counts q) alike.held_found) in
+    let looked : (q : ℕ) → slice_index old.looks q ≤ slice_index new.looks q = λ q. omega (arith, ap (λ counts. slice_index counts q) looks, later-raised old.looks r q) in
+    assumption
+
 -- whatever came of a turn
 pub turned-within : (terms : Terms) (old new : View) (goal r : ℕ) (answer : Turn) → (answer ≡ Held → new ≡ found_taken old r) →
     ((s : ℕ) → answer ≡ Ended s → (goal ≤ s) × (new ≡ took_at old r s) × (slice_index new.seen r ≡ s) × (slice_index old.seen r ≤ s)) →
     ((q s : ℕ) → answer ≡ Behind q s → IsBehind terms old new goal r q s) → ((s : ℕ) → answer ≡ Moved s → IsMoved terms old new goal r s) → IsWithin old new goal
-turned-within terms old new goal r Held held ended behind moved =
-    let is = held refl in record {
-      share = ap (λ (v : View). v.share) is;
-      splits = ap (λ (v : View). v.splits) is;
-      seen = record { long = ap (λ (v : View). length v.seen) is; later = λ q. omega (arith, ap (λ (v : View). slice_index v.seen q) is) };
-      moves = omega (arith, ap (λ (v : View). length v.log) is);
-      risen = omega (arith, ap (λ (v : View). v.reach) is);
-      reach = omega (arith, ap (λ (v : View). v.reach) is);
-      held_found = λ q. omega (arith, ap (λ (v : View). slice_index v.held_found q) is, later-raised old.held_found r q);
-      short_found = omega (arith, ap (λ (v : View). v.short_found) is);
-      looks = λ q. omega (arith, ap (λ (v : View). slice_index v.looks q) is);
-    }
+turned-within terms old new goal r Held held ended behind moved = subst (λ v. IsWithin old v goal) (sym (held refl)) (search (rules, later-raised old.held_found r))
 turned-within terms old new goal r (Ended s) held ended behind moved =
-    let at = ended s refl in record {
-      share = ap (λ (v : View). v.share) at.1;
-      splits = ap (λ (v : View). v.splits) at.1;
-      seen = record { long = ap (λ (v : View). length v.seen) at.1 ∙ length-set old.seen r s; later = λ q. omega (arith, ap (λ (v : View). slice_index v.seen q) at.1, later-set old.seen r s q at.3) };
-      moves = omega (arith, ap (λ (v : View). length v.log) at.1);
-      risen = omega (arith, ap (λ (v : View). v.reach) at.1);
-      reach = omega (arith, ap (λ (v : View). v.reach) at.1);
-      held_found = λ q. omega (arith, ap (λ (v : View). slice_index v.held_found q) at.1);
-      short_found = omega (arith, ap (λ (v : View). v.short_found) at.1);
-      looks = λ q. omega (arith, ap (λ (v : View). slice_index v.looks q) at.1, later-raised old.looks r q);
-    }
+    let at = ended s refl in
+    let seen : IsLater old (took_at old r s) = record { long = length-set old.seen r s; later = λ q. later-set old.seen r s q at.3 } in
+    subst (λ v. IsWithin old v goal) (sym at.1) (alike-within old (took_at old r s) goal r (assumption) refl (omega arith) (omega arith) (omega arith) (omega arith))
 turned-within terms old new goal r (Behind q s) held ended behind moved =
-    let is = behind q s refl in record {
-      share = is.still.alike.share;
-      splits = is.still.alike.splits;
-      seen = is.still.alike.seen;
-      moves = omega (arith, ap length is.still.log);
-      risen = omega (arith, is.still.reach);
-      reach = omega (arith, is.still.reach);
-      held_found = λ q. omega (arith, ap (λ counts. slice_index counts q) is.still.alike.held_found);
-      short_found = omega (arith, is.one_more);
-      looks = λ q. omega (arith, ap (λ counts. slice_index counts q) is.looks, later-raised old.looks r q);
-    }
+    let is = behind q s refl in
+    alike-within old new goal r is.still.alike is.looks (omega (arith, ap length is.still.log)) (omega (arith, is.still.reach)) (omega (arith, is.still.reach)) (omega (arith, is.one_more))
 turned-within terms old new goal r (Moved s) held ended behind moved =
-    let is = moved s refl in record {
-      share = is.alike.share;
-      splits = is.alike.splits;
-      seen = is.alike.seen;
-      moves = omega (arith, ap length is.log);
-      risen = omega (arith, is.reach);
-      reach = omega (arith, is.reach, is.below);
-      held_found = λ q. omega (arith, ap (λ counts. slice_index counts q) is.alike.held_found);
-      short_found = omega (arith, is.found.short_found);
-      looks = λ q. omega (arith, ap (λ counts. slice_index counts q) is.looks, later-raised old.looks r q);
-    }
+    let is = moved s refl in
+    alike-within old new goal r is.alike is.looks (omega (arith, ap length is.log)) (omega (arith, is.reach)) (omega (arith, is.reach, is.below)) (omega (arith, is.found.short_found))
 
 -- whatever came of a turn, its region was tried
 pub turned-tried : (terms : Terms) (old new : View) (goal r : ℕ) (answer : Turn) → (answer ≡ Held → new ≡ found_taken old r) →

@@ -1,6 +1,6 @@
 -- A seat shared off, two seats made one, and what the whole share has seen.
 use Rattle.std.specs.Prelude.{max, slice_index}
-use Rattle.std.proofs.Common.{◌≡◌, ◌≢◌, ℕ, ◌<◌, ◌≤◌, inl, inr, [], ◌∷◌, refl, sym, ap, subst, ◌∙◌, arith}
+use Rattle.std.proofs.Common.{◌≡◌, ◌≢◌, ℕ, ◌<◌, ◌≤◌, [], ◌∷◌, refl, sym, ap, subst, ◌∙◌, arith}
 use mathlib.Core.Option.{none, some}
 use lib.ListN.{get_elem?}
 use Rattle.atomic_table.specs.Table.{Allows, Joins, Splits, keeps, step}
@@ -11,13 +11,14 @@ use Rattle.border_rows.specs.Places.{widths_of, words_of}
 use Rattle.border_rows.specs.Standing.{FieldState, IsStanding}
 use Rattle.border_rows.specs.declared.view.Terms.{Terms}
 use Rattle.border_rows.specs.declared.view.View.{View}
-use Rattle.border_rows.proofs.ClaimKinds.{whole_spent, within-widths}
+use Rattle.border_rows.proofs.ClaimKinds.{within-widths}
 use Rattle.border_rows.proofs.PlaceLaws.{claim-there}
 use Rattle.border_rows.proofs.RowKinds.{read-keeps}
 use Rattle.border_rows.proofs.SeatKinds.{join-keeps, split-keeps}
 use Rattle.border_rows.proofs.ViewUpdates.{Contains-elem}
 use Rattle.region_slots.specs.Plays.{Bounded, Mine}
 use Rattle.region_slots.proofs.Claiming.{same-terms}
+use Rattle.region_slots.proofs.Closing.{whole_reach}
 
 -- a field has a word
 pub some-word : (terms : Terms) → IsChart terms.setup.now.chart → 0 < words_of (widths_of terms.setup.now.chart)
@@ -36,14 +37,7 @@ uniting terms id view place other share also empty = λ s standing at apart ther
 whole-seen : (terms : Terms) (s : FieldState) (id r : ℕ) (view : View) → IsStanding terms s → get_elem? s.views id ≡ some view → view.share ≡ terms.seats →
     r < region_count terms.setup.now.chart.cut → slice_index view.seen r ≤ max (slice_index terms.setup.now.start.steps r) view.reach
 whole-seen terms s id r view standing at all within =
-    let seen = standing.counts.seen view r (Contains-elem s.views id view at) within in
-    elim (standing.counts.reach r within) [
-      | inl low ↦ omega (arith, seen, low)
-      | inr far ↦ elim (whole_spent terms s id view far.0 standing at all far.1) [
-        | inl own ↦ omega (arith, seen, far.2, ap (λ (v : View). v.reach) own)
-        | inr gone ↦ omega (arith, seen, far.2, gone.reach)
-      ]
-    ]
+    omega (arith, standing.counts.seen view r (Contains-elem s.views id view at) within, whole_reach terms s id r view standing at all within)
 
 -- a look at any word tells so
 pub bounding : (terms : Terms) (slots id place : ℕ) (me : Mine) → me.0.terms ≡ terms ∷ [] →

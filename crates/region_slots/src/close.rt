@@ -14,7 +14,7 @@ impl<'a> Field<'a> {
     ghost use Rattle.std.specs.Prelude.{◌≡◌, ◌<◌, ◌≤◌, ℕ, length, max, slice_index};
     ghost use Rattle.region_cut.specs.Cuttings.{region_count};
     ghost use Rattle.region_cut.specs.LawfulSteps.{AreLawful};
-    ghost use Rattle.region_step.specs.Standing.{AllStand};
+    ghost use Rattle.region_step.specs.Regions.{HaveCome};
     ghost use Rattle.region_slots.specs.Closing.{AreLogged, steps_since};
     ghost use Rattle.region_slots.specs.FieldView.{IsPassOf};
 
@@ -22,11 +22,8 @@ impl<'a> Field<'a> {
     pub fn close(self, pass: Pass) -> Closed
         requires belongs { IsPassOf self pass }
         requires whole { pass.knows.share ≡ self.terms.seats }
-        ensures steps { length result.steps.items ≡ region_count self.entry.terms.setup.now.chart.cut }
-        ensures regions { length result.regions.items ≡ region_count self.entry.terms.setup.now.chart.cut }
-        ensures stand { AllStand self.entry.terms.setup.now result.steps.items result.regions.items }
+        ensures come { HaveCome self.entry.terms.setup.now result.steps.items result.regions.items }
         ensures lawful { AreLawful self.entry.terms.setup.now.net self.entry.terms.setup.now.chart.cut result.steps.items }
-        ensures started { (r : ℕ) → r < region_count self.entry.terms.setup.now.chart.cut → slice_index self.entry.terms.setup.now.start.steps r ≤ slice_index result.steps.items r }
         ensures later { (r : ℕ) → r < region_count self.entry.terms.setup.now.chart.cut → slice_index pass.knows.seen r ≤ slice_index result.steps.items r }
         ensures reached { (r : ℕ) → r < region_count self.entry.terms.setup.now.chart.cut → slice_index result.steps.items r ≤ max (slice_index self.entry.terms.setup.now.start.steps r) pass.knows.reach }
         ensures moves { steps_since self.entry.terms.setup.now.start (region_count self.entry.terms.setup.now.chart.cut) result.steps.items ≡ length pass.knows.log }

@@ -5,7 +5,8 @@ use Rattle.border_rows.specs.declared.view.View.{View}
 use Rattle.worker_claim.specs.Driving.{HasSwept}
 use Rattle.worker_claim.specs.Turns.{none}
 use Rattle.worker_claim.specs.declared.driven.Driven.{Driven}
-use Rattle.worker_claim.proofs.Turning.{AreAdded, within-more, within-none}
+use Rattle.region_slots.proofs.Tries.{within-more, within-none}
+use Rattle.worker_claim.proofs.Turning.{AreAdded}
 
 -- no sweep yet
 pub swept-none : (view : View) (count goal : ℕ) → HasSwept count goal 0 view view none

@@ -1,14 +1,14 @@
 -- Sweeps, one after the other.
 use Rattle.std.specs.Prelude.{IsTrue}
 use Rattle.std.proofs.Common.{◌≡◌, ◌≢◌, ℕ, ◌+◌, ◌<◌, ◌≤◌, inl, inr, false, nat_eq, refl, sym, ◌∙◌, arith}
-use Rattle.std.proofs.lemmas.Bool.{cases_eq, cases_lt, eqb-false, eqb-true}
+use Rattle.std.proofs.lemmas.Bool.{cases_lt, eqb-false, eqb-true}
 use Rattle.region_cut.specs.Cuttings.{region_count}
 use Rattle.border_rows.specs.declared.view.Terms.{Terms}
 use Rattle.border_rows.specs.declared.view.View.{View}
 use Rattle.worker_claim.specs.Driving.{HasSwept}
-use Rattle.worker_claim.specs.Turns.{HasTurned, IsCounted, none, turns_of}
+use Rattle.worker_claim.specs.Turns.{HasTurned, IsCounted, turns_of}
 use Rattle.worker_claim.specs.declared.driven.Driven.{Driven}
-use Rattle.worker_claim.proofs.Turning.{AreAdded, Came, came-later, came-more, counted-more, within-more, within-none}
+use Rattle.worker_claim.proofs.Turning.{AreAdded, Came, came-later, came-more, counted-more}
 
 -- turns on the regions from one on, and then on those before it
 pub record IsSweep (terms : Terms) (old new : View) (goal : ℕ) (driven : Driven) : Type 0 where

@@ -1,10 +1,8 @@
 -- Turns on the regions of a range, one after the other.
 use Rattle.std.specs.Prelude.{slice_index}
 use Rattle.std.specs.List.{sum}
-use Rattle.std.proofs.Common.{◌≡◌, ◌≢◌, ◌⊎◌, ℕ, ◌+◌, ◌<◌, ◌≤◌, inl, inr, List, length, refl, sym, ap, subst, ◌∙◌, arith}
+use Rattle.std.proofs.Common.{◌≡◌, ◌≢◌, ◌⊎◌, ℕ, ◌+◌, ◌<◌, ◌≤◌, inl, inr, length, refl, sym, ap, subst, ◌∙◌, arith}
 use Rattle.std.proofs.lemmas.Bool.{cases_eq, cases_lt}
-use Rattle.std.proofs.lemmas.List.{get_or-set_other, get_or-set_same}
-use Rattle.std.proofs.lemmas.List.Sums.{sum_by-set}
 use Rattle.region_cut.specs.Cuttings.{region_count}
 use Rattle.border_rows.specs.Kinds.{found_taken, raised}
 use Rattle.border_rows.specs.declared.view.Terms.{Terms}
@@ -14,66 +12,10 @@ use Rattle.region_slots.specs.FieldView.{HasCounts}
 use Rattle.region_slots.specs.Turning.{IsBehind, IsMoved, IsWithin, took_at}
 use Rattle.region_slots.specs.declared.turn.Turn.{Turn}
 use Rattle.region_slots.specs.declared.turn.Turn.TheVariants.{Behind, Ended, Held, Moved}
-use Rattle.worker_claim.specs.Driving.{tries_at, tries_of}
+use Rattle.region_slots.proofs.Tries.{IsTried, raised-sum, tried-held, tried-looked, within-more, within-none}
+use Rattle.worker_claim.specs.Driving.{tries_at}
 use Rattle.worker_claim.specs.Turns.{HasTurned, IsCounted, IsShort, counted, none, turns_of}
 use Rattle.worker_claim.specs.declared.driven.Driven.{Driven}
-
--- one turn keeps what no turn has changed
-pub within-none : (view : View) (goal : ℕ) → IsWithin view view goal
-within-none view goal = record {
-  share = refl;
-  splits = refl;
-  seen = record { long = refl; later = λ q. omega arith };
-  moves = omega arith;
-  risen = omega arith;
-  reach = omega arith;
-  held_found = λ q. omega arith;
-  short_found = omega arith;
-  looks = λ q. omega arith;
-}
-
-pub within-more : (old view new : View) (goal : ℕ) → IsWithin old view goal → IsWithin view new goal → IsWithin old new goal
-within-more old view new goal before after = record {
-  share = after.share ∙ before.share;
-  splits = after.splits ∙ before.splits;
-  seen = record { long = after.seen.long ∙ before.seen.long; later = λ q. omega (arith, before.seen.later q, after.seen.later q) };
-  moves = omega (arith, before.moves, after.moves);
-  risen = omega (arith, before.risen, after.risen);
-  reach = omega (arith, before.reach, after.reach);
-  held_found = λ q. omega (arith, before.held_found q, after.held_found q);
-  short_found = omega (arith, before.short_found, after.short_found);
-  looks = λ q. omega (arith, before.looks q, after.looks q);
-}
-
--- a count of region r is one higher, and the others are as they were
-raised-own : (counts : List ℕ) (r : ℕ) → r < length counts → slice_index (raised counts r) r ≡ slice_index counts r + 1
-raised-own counts r there = get_or-set_same counts r (slice_index counts r + 1) 0 there
-
-raised-other : (counts : List ℕ) (r p : ℕ) → p ≢ r → slice_index (raised counts r) p ≡ slice_index counts p
-raised-other counts r p other = get_or-set_other counts r p (slice_index counts r + 1) 0 other
-
-raised-sum : (counts : List ℕ) (r : ℕ) → r < length counts → sum (raised counts r) ≡ sum counts + 1
-raised-sum counts r there = omega (arith, sum_by-set (λ n. n) counts r (slice_index counts r + 1) 0 there)
-
--- one region was tried
-record IsTried (old new : View) (r : ℕ) : Type 0 where
-  pub own : tries_at new r ≡ tries_at old r + 1
-  pub others : (p : ℕ) → p ≢ r → tries_at new p ≡ tries_at old p
-  pub in_all : tries_of new ≡ tries_of old + 1
-
-tried-looked : (old new : View) (r : ℕ) → new.held_found ≡ old.held_found → new.looks ≡ raised old.looks r → r < length old.looks → IsTried old new r
-tried-looked old new r held looks there = record {
-  own = omega (arith, ap (λ l. slice_index l r) held, ap (λ l. slice_index l r) looks, raised-own old.looks r there);
-  others = λ p other. omega (arith, ap (λ l. slice_index l p) held, ap (λ l. slice_index l p) looks, raised-other old.looks r p other);
-  in_all = omega (arith, ap sum held, ap sum looks, raised-sum old.looks r there);
-}
-
-tried-held : (old new : View) (r : ℕ) → new.held_found ≡ raised old.held_found r → new.looks ≡ old.looks → r < length old.held_found → IsTried old new r
-tried-held old new r held looks there = record {
-  own = omega (arith, ap (λ l. slice_index l r) looks, ap (λ l. slice_index l r) held, raised-own old.held_found r there);
-  others = λ p other. omega (arith, ap (λ l. slice_index l p) looks, ap (λ l. slice_index l p) held, raised-other old.held_found r p other);
-  in_all = omega (arith, ap sum looks, ap sum held, raised-sum old.held_found r there);
-}
 
 -- where a turn leaves its region
 abbrev pub Came : (terms : Terms) (old new : View) (goal r : ℕ) → Driven → Type 0

@@ -17,13 +17,7 @@ use Rattle.wait_call.proofs.waiting_run.last_regions.Goals as goal
 
 pub new-requires : goal.new-requires
 new-requires g c =
-    let closed = c.close-steps.ensures in
-    let come : HaveCome c.in_ok-field.field.terms.setup.now c.close-steps.result.steps.items c.close-steps.result.regions.items = record {
-      one_each = closed.steps;
-      later = closed.started;
-      stand = closed.stand;
-    } in
-    subst (λ (t : Terms). HaveCome t.setup.now c.close-steps.result.steps.items c.close-steps.result.regions.items) c.in_ok-field.ensures.terms come
+    subst (λ (t : Terms). HaveCome t.setup.now c.close-steps.result.steps.items c.close-steps.result.regions.items) c.in_ok-field.ensures.terms c.close-steps.ensures.come
 
 pub returns-clause-true_start : goal.returns-clause-true_start
 returns-clause-true_start g c =
@@ -38,7 +32,7 @@ returns-clause-last g c =
     let count : region_count c.in_ok-field.field.terms.setup.now.chart.cut ≡ region_count setup.chart.cut = ap (λ (s : SetupValue). region_count s.chart.cut) same in
     let closed = c.close-steps.ensures in
     subst AreAtLast (sym c.new.ensures)
-    (all-at setup.chart.cut c.close-steps.result.steps.items setup.net.steps (closed.steps ∙ count)
+    (all-at setup.chart.cut c.close-steps.result.steps.items setup.net.steps (closed.come.one_each ∙ count)
     (λ r there. let within : r < region_count c.in_ok-field.field.terms.setup.now.chart.cut = omega (arith, there, count) in omega (arith, last, c.take_to_last.ensures.seen r within, closed.later r within))
     (λ r there. omega (
       arith,

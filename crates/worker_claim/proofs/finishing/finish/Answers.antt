@@ -1,7 +1,7 @@
 use Rattle.std.proofs.Common.{◌∙◌}
 use Rattle.region_slots.specs.Moments.{cut_run}
 use Rattle.region_slots.proofs.Observed.{told-more}
-use Rattle.worker_claim.proofs.Turning.{within-more}
+use Rattle.region_slots.proofs.Tries.{within-more}
 use Rattle.worker_claim.proofs.finishing.finish.Goals as goal
 
 pub loop-all-preserved : goal.loop-all-preserved

@@ -10,21 +10,14 @@ use Rattle.network_run.proofs.run.Run.close.Goals as goal
 
 pub returns-clause-come : goal.returns-clause-come
 returns-clause-come c =
-    let terms : Terms = c.self.inside.field.terms in
-    let closed = c.close.ensures in
-    let come : HaveCome terms.setup.now c.close.result.steps.items c.close.result.regions.items = record {
-      one_each = closed.steps;
-      later = closed.started;
-      stand = closed.stand;
-    } in
-    subst (λ (run : RunValue). HaveCome run.terms.setup.now c.close.result.steps.items c.close.result.regions.items) c.self.view_is come
+    subst (λ (run : RunValue). HaveCome run.terms.setup.now c.close.result.steps.items c.close.result.regions.items) c.self.view_is c.close.ensures.come
 
 pub returns-clause-steps : goal.returns-clause-steps
 returns-clause-steps c =
     let terms : Terms = c.self.inside.field.terms in
     let closed = c.close.ensures in
     subst (λ (run : RunValue). AreWhereTheyCame run c.close.result.steps.items) c.self.view_is
-    (λ goal came low early. all-at terms.setup.now.chart.cut c.close.result.steps.items goal closed.steps
+    (λ goal came low early. all-at terms.setup.now.chart.cut c.close.result.steps.items goal closed.come.one_each
     (λ r there. omega (arith, came r there, closed.later r there)) (λ r there. omega (arith, closed.reached r there, early r there, low)))
 
 pub returns-clause-logged : goal.returns-clause-logged

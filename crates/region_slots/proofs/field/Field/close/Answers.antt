@@ -75,16 +75,13 @@ closed c =
     omega (arith, c.loop-r-test.false, c.regions.ensures.count, inv.0, ap (λ (chart : ChartLists). region_count chart.cut) chart) in
     let steps : c.loop-r.steps.items ≡ steps_of terms.setup.now.chart words =
     inv.1 ∙ ap (λ (chart : ChartLists). map (step_of chart words) (range_with_len 0 c.loop-r.r)) (sym chart) ∙ ap (λ n. map (step_of terms.setup.now.chart words) (range_with_len 0 n)) count in
-    let items : c.loop-r.regions.items ≡ regions = inv.2 ∙ take_all c.loop-r.r regions (omega (arith, count, is.one_each)) in
+    let items : c.loop-r.regions.items ≡ regions = inv.2 ∙ take_all c.loop-r.r regions (omega (arith, count, is.come.stand.one_each)) in
     subst (λ (t : Terms). IsClosed t c.args.pass.knows c.loop-r.steps.items c.loop-r.regions.items) same_terms
     (subst (λ (v : View). IsClosed terms v c.loop-r.steps.items c.loop-r.regions.items) knows
     (subst (λ l. IsClosed terms view l c.loop-r.regions.items) (sym steps) (subst (λ l. IsClosed terms view (steps_of terms.setup.now.chart words) l) (sym items) is)))
 
-pub returns-clause-stand : goal.returns-clause-stand
-returns-clause-stand c = (closed c).stand
-
-pub returns-clause-started : goal.returns-clause-started
-returns-clause-started c = (closed c).started
+pub returns-clause-come : goal.returns-clause-come
+returns-clause-come c = (closed c).come
 
 pub returns-clause-later : goal.returns-clause-later
 returns-clause-later c = (closed c).later
