@@ -1,9 +1,8 @@
 -- Status Words is the answer to words that are refused alone.
 use Rattle.std.proofs.Common.{◌≡◌, ◌⊎◌, ℕ, Bool, true, false, inl, inr, List, Option, Some, None, Result, Ok, Err, IfSome, refl, subst, ap, if◌then◌else◌, [], ◌∷◌, ◌+◌, length, nat_lt, arith}
 use Rattle.std.specs.Option.{option_or}
-use Rattle.std.specs.Prelude.{◌&&◌, ◌*◌, nat_le}
+use Rattle.std.specs.Prelude.{◌&&◌, nat_le}
 use Rattle.std.proofs.lemmas.Bool.{false≢true}
-use Rattle.delay_report.specs.Report.{recorded_count}
 use Rattle.network_file.specs.Network.{Network}
 use Rattle.network_file.specs.Reading.{network_of}
 use Rattle.network_file.specs.declared.fault.NetFault.{NetFault}
@@ -51,10 +50,10 @@ other-network (Ok net) why is = is net
 other-network (Err fault) why is = other status.Network (λ e. omega (arith, e))
 
 other-unrecorded : (net : Network) (every : ℕ) → IfSome (why_unrecorded net every) IsOther
-other-unrecorded net every = other-if (nat_lt 4_000_000 (length net.cells * recorded_count net.steps every)) _ (other status.TooLarge (λ e. omega (arith, e)))
+other-unrecorded net every = other-if _ _ (other status.TooLarge (λ e. omega (arith, e)))
 
 other-unshown : (net : Network) (shots : ℕ) → IfSome (why_unshown net shots) IsOther
-other-unshown net shots = other-if (nat_lt 4_000_000 (length net.cells * shots)) _ (other status.TooLarge (λ e. omega (arith, e)))
+other-unshown net shots = other-if _ _ (other status.TooLarge (λ e. omega (arith, e)))
 
 other-start : {P : Type 0} (can : Dec P) → IfSome (why_unstarted can) IsOther
 other-start (yes can) = tt
