@@ -1,8 +1,8 @@
 -- The next cell of a walk: beside the first open cell, or the least that is missing.
 use Rattle.std.specs.Prelude.{find, slice_get}
-use Rattle.std.specs.List.{position_or_len}
+use Rattle.std.specs.List.{list_any, position_or_len}
 use Rattle.std.specs.Option.{option_map_or}
-use Rattle.std.proofs.Common.{◌≡◌, ℕ, ◌<◌, true, false, List, Some, None, Option, length, get_or, sym, ap, subst, ◌∙◌, arith}
+use Rattle.std.proofs.Common.{◌≡◌, ℕ, ◌<◌, Bool, true, false, List, Some, None, Option, length, get_or, sym, ap, subst, ◌∙◌, arith}
 use Rattle.std.proofs.lemmas.List.{get_or_default}
 use Rattle.std.proofs.lemmas.List.FromFn.{length-range_with_len}
 use Rattle.std.proofs.lemmas.List.Folds.{find_at, list_any_none}
@@ -12,8 +12,16 @@ use Rattle.network_file.specs.Network.{Network}
 use Rattle.region_cut.proofs.Anys.{finds}
 use Rattle.region_cut.proofs.Ranges.{range-Contains}
 use Rattle.cut_grow.specs.Least.{IsLeast}
-use Rattle.cut_grow.specs.Walk.{file_order, is_missing, is_missing_beside, is_open, least_cell, next_of}
+use Rattle.cut_grow.specs.Walk.{file_order, is_missing, is_missing_beside, next_of}
 use Rattle.cut_grow.proofs.Leasts.{least-position, range-at}
+
+-- the least cell that passes a test, or the number of cells where none does
+abbrev least_cell : Network → (test : ℕ → Bool) → ℕ
+least_cell net test = position_or_len test (file_order net)
+
+-- cell x shares a connector with a missing cell
+abbrev pub is_open : Network → (walk : List ℕ) → (x : ℕ) → Bool
+is_open net walk x = list_any (is_missing_beside net walk x) (file_order net)
 
 -- whether a cell is open, by the cells below the number of cells
 pub closed-from : (net : Network) (walk : List ℕ) (x : ℕ) → ((i : ℕ) → i < length net.cells → is_missing_beside net walk x i ≡ false) → is_open net walk x ≡ false

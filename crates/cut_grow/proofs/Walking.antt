@@ -16,9 +16,9 @@ use Rattle.region_cut.proofs.Ranges.{Contains-range}
 use Rattle.cut_grow.specs.Least.{IsLeast}
 use Rattle.cut_grow.specs.Orders.{IsPermutation}
 use Rattle.cut_grow.specs.Sides.{IsClosed, IsOpen, is_free}
-use Rattle.cut_grow.specs.Walk.{file_order, is_missing, is_missing_beside, is_open, next_of, walk_to}
+use Rattle.cut_grow.specs.Walk.{file_order, is_missing, is_missing_beside, next_of, walk_to}
 use Rattle.cut_grow.proofs.Counted.{true-not_false}
-use Rattle.cut_grow.proofs.NextCells.{closed-from, next-beside, next-lowest, open-from}
+use Rattle.cut_grow.proofs.NextCells.{closed-from, is_open, next-beside, next-lowest, open-from}
 
 -- marks that count themselves
 

@@ -9,10 +9,6 @@ use Rattle.network_file.specs.Network.{Network}
 abbrev pub file_order : Network → List ℕ
 file_order net = range_with_len 0 (length net.cells)
 
--- the least cell that passes a test, or the number of cells where none does
-abbrev pub least_cell : Network → (test : ℕ → Bool) → ℕ
-least_cell net test = position_or_len test (file_order net)
-
 -- cell i is missing in the walk so far
 abbrev pub is_missing : (walk : List ℕ) → (i : ℕ) → Bool
 is_missing walk i = not (list_any (eqb i) walk)
@@ -21,15 +17,13 @@ is_missing walk i = not (list_any (eqb i) walk)
 abbrev pub is_missing_beside : Network → (walk : List ℕ) → (x i : ℕ) → Bool
 is_missing_beside net walk x i = is_missing walk i && are_joined net.connectors x i
 
--- cell x shares a connector with a missing cell
-abbrev pub is_open : Network → (walk : List ℕ) → (x : ℕ) → Bool
-is_open net walk x = list_any (is_missing_beside net walk x) (file_order net)
-
 -- the cell that is added: the least missing one that shares a connector with the first cell of the walk that shares one with a
 -- missing cell; where there is no such cell in the walk, the least missing one
 unfoldable pub next_of : Network → (walk : List ℕ) → ℕ
 next_of net walk =
-    option_map_or (λ x. least_cell net (is_missing_beside net walk x)) (find (is_open net walk) walk) (least_cell net (is_missing walk))
+    let least = λ (test : ℕ → Bool). position_or_len test (file_order net) in
+    let is_open = λ (x : ℕ). list_any (is_missing_beside net walk x) (file_order net) in
+    option_map_or (λ x. least (is_missing_beside net walk x)) (find is_open walk) (least (is_missing walk))
 
 -- its first n cells, of which there are as many as cells; of the empty walk the least missing cell is cell 0
 unfoldable pub walk_to : Network → (n : ℕ) → List ℕ
