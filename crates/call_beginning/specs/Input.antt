@@ -42,9 +42,9 @@ abbrev pub why_long : Mode → (input : List ℕ) → Option Why
 why_long mode input = if nat_lt (most_input mode) (length input) then Some large_input else None
 
 -- whether there is a request that reads the source
-abbrev pub is_read : Option Request → Bool
-is_read None = false
-is_read (Some request) = reads_source request.mode
+abbrev pub asks_source : Option Request → Bool
+asks_source None = false
+asks_source (Some request) = reads_source request.mode
 
 -- the input of a request: what the source has left, where it tells it, and of `sample` the made network
 abbrev pub IsInputOf : Option Request → (left : Option (List ℕ)) → (input : List ℕ) → Type 0
@@ -54,7 +54,7 @@ IsInputOf (Some request) left input =
 
 -- the source is at its end where the request reads it
 abbrev pub IsReadWhole : Option Request → (left : Option (List ℕ)) → Type 0
-IsReadWhole request left = is_read request ≡ true → IsAtEnd left
+IsReadWhole request left = asks_source request ≡ true → IsAtEnd left
 
 -- the most bytes of the source that are read: one more than the input may have
 abbrev pub most_read : Option Request → ℕ

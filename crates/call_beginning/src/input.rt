@@ -4,7 +4,7 @@ ghost use Rattle.ctm_ports.specs.ReadEnd.{LosesAtMost};
 ghost use Rattle.command_words.specs.Words.{IsInRange};
 ghost use Rattle.net_make.specs.Made.{made};
 ghost use Rattle.call_ending.specs.Refusing.{IsRefusalOf};
-ghost use Rattle.call_beginning.specs.Input.{IsInputOf, IsReadWhole, is_read, large_input, most_input, most_read, reads_source, why_long};
+ghost use Rattle.call_beginning.specs.Input.{IsInputOf, IsReadWhole, asks_source, large_input, most_input, most_read, reads_source, why_long};
 
 use call_ending::{Cause, Line, Refusal};
 use command_words::{Mode, Request};
@@ -25,8 +25,8 @@ pub fn input_of<S: Source>(
     requires in_range { IsInRange request }
     ensures input { IfOk result (λ input. IsInputOf (Some request) (S.left source.old) input.items × (length input.items ≤ most_input request.mode)) }
     ensures refusal { IfErr result (λ refusal. (input : List ℕ) × IsInputOf (Some request) (S.left source.old) input
-        × IsRefusalOf (why_long request.mode input) ((is_read (Some request) ≡ true) × Rose (S.faults source.old) (S.faults source.new)) refusal) }
-    ensures unread { is_read (Some request) ≡ false → source.new ≡ source.old }
+        × IsRefusalOf (why_long request.mode input) ((asks_source (Some request) ≡ true) × Rose (S.faults source.old) (S.faults source.new)) refusal) }
+    ensures unread { asks_source (Some request) ≡ false → source.new ≡ source.old }
     ensures at_end { OnOk result (IsReadWhole (Some request) (S.left source.new)) }
     ensures bounded { LosesAtMost (S.left source.old) (S.left source.new) (most_read (Some request)) }
 {

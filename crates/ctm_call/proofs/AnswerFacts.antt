@@ -9,7 +9,7 @@ use Rattle.call_ending.specs.declared.refusal.Refusal.{Refusal}
 use Rattle.call_ending.specs.declared.refusal.Refusal.TheVariants as refusal
 use Rattle.ctm_call.specs.Telling.{IsAnswered, IsToldBy}
 use Rattle.ctm_call.specs.Answer.{IsTextBy, why_by, why_none}
-use Rattle.call_beginning.specs.Input.{IsInputOf, is_read, most_input, why_long}
+use Rattle.call_beginning.specs.Input.{IsInputOf, asks_source, most_input, why_long}
 use Rattle.call_beginning.specs.Task.{task_of}
 use Rattle.call_beginning.specs.Words.{IsOfWords, words_refused}
 use Rattle.call_beginning.proofs.Inputs.{allowed, some_input_of}
@@ -35,10 +35,10 @@ early None later ReadFailed refusal.NoMemory is = is
 
 -- an input that is refused before its mode looks at it, or can't be had
 pub refused_input : (asked : Option Request) (request : Request) (left : Option (List ℕ)) (told : Refusal) (Rose : Type 0) → asked ≡ Some request →
-    (input : List ℕ) × IsInputOf (Some request) left input × IsRefusalOf (why_long request.mode input) ((is_read (Some request) ≡ true) × Rose) told →
-    (input : List ℕ) × IsInputOf asked left input × IsRefusalOf (why_none asked input) ((is_read asked ≡ true) × Rose) told
+    (input : List ℕ) × IsInputOf (Some request) left input × IsRefusalOf (why_long request.mode input) ((asks_source (Some request) ≡ true) × Rose) told →
+    (input : List ℕ) × IsInputOf asked left input × IsRefusalOf (why_none asked input) ((asks_source asked ≡ true) × Rose) told
 refused_input asked request left told Rose is given =
-    subst (λ asked. (input : List ℕ) × IsInputOf asked left input × IsRefusalOf (why_none asked input) ((is_read asked ≡ true) × Rose) told) (sym is)
+    subst (λ asked. (input : List ℕ) × IsInputOf asked left input × IsRefusalOf (why_none asked input) ((asks_source asked ≡ true) × Rose) told) (sym is)
     (given.0, given.1, early (why_long request.mode given.0) (why_by request.mode (task_of request given.0)) _ told given.2)
 
 -- a text of the mode is one of the answer

@@ -22,7 +22,7 @@ use Rattle.call_ending.specs.declared.status.Status.TheVariants as status
 use Rattle.ctm_call.specs.Telling.{IsAnswered}
 use Rattle.ctm_call.specs.Answer.{why_by, why_none}
 use Rattle.workerless_modes.specs.ChooseMode.{choose_refused, plans_refused, why_of_candidate, why_of_candidates}
-use Rattle.call_beginning.specs.Input.{is_read, large_input, most_input, why_long}
+use Rattle.call_beginning.specs.Input.{asks_source, large_input, most_input, why_long}
 use Rattle.call_beginning.specs.NetworkInput.{why_of_network}
 use Rattle.saved_modes.specs.ResumeMode.{why_by_content, why_by_cutting, why_unstarted}
 use Rattle.call_beginning.specs.Recording.{why_unrecorded}
@@ -116,7 +116,7 @@ words-refused IsText (Some request) input IsRead ReadFailed told out err ended i
 
 -- and with such words it ends so, unless memory was refused
 by-words : (held freed : Telling) (watched : TellingOfShots) (input : List ℕ) (IsRead Rose : Type 0) (told : Status) (out err : SinkUse) →
-    HasEnded (IsAnswered held freed watched None input) (why_none None input) IsRead ((is_read None ≡ true) × Rose) told out err →
+    HasEnded (IsAnswered held freed watched None input) (why_none None input) IsRead ((asks_source None ≡ true) × Rose) told out err →
     (told ≡ status.Words) ⊎ (told ≡ status.NoMemory)
 by-words held freed watched input IsRead Rose status.Done out err ended = absurd ended.1
 by-words held freed watched input IsRead Rose status.ReadFault out err ended = absurd (false≢true ended.0.0)
@@ -125,8 +125,8 @@ by-words held freed watched input IsRead Rose status.NoMemory out err ended = in
 by-words held freed watched input IsRead Rose other out err ended = inl (subst (λ why. IfSome why (λ w. w.status ≡ status.Words)) ended.1 refl)
 
 pub refused-words : (held freed : Telling) (watched : TellingOfShots) (asked : Option Request) (input : List ℕ) (IsRead Rose : Type 0) (told : Status) (out err : SinkUse) → asked ≡ None →
-    HasEnded (IsAnswered held freed watched asked input) (why_none asked input) IsRead ((is_read asked ≡ true) × Rose) told out err →
+    HasEnded (IsAnswered held freed watched asked input) (why_none asked input) IsRead ((asks_source asked ≡ true) × Rose) told out err →
     (told ≡ status.Words) ⊎ (told ≡ status.NoMemory)
 refused-words held freed watched asked input IsRead Rose told out err none ended =
     by-words held freed watched input IsRead Rose told out err
-    (subst (λ asked. HasEnded (IsAnswered held freed watched asked input) (why_none asked input) IsRead ((is_read asked ≡ true) × Rose) told out err) none ended)
+    (subst (λ asked. HasEnded (IsAnswered held freed watched asked input) (why_none asked input) IsRead ((asks_source asked ≡ true) × Rose) told out err) none ended)

@@ -24,7 +24,7 @@ IsToldBy held freed watched Cut task = ⊤
 IsToldBy held freed watched Check task = ⊤
 IsToldBy held freed watched Convert task = ⊤
 
--- the request with this input was answered by this text, and the observer was told so of it
+-- the request with this input was answered by this text, and the observer was told what the mode tells of it
 abbrev pub IsAnswered : (held freed : Telling) (watched : TellingOfShots) → Option Request → (input text : List ℕ) → Type 0
 IsAnswered held freed watched None input text = ⊥
 IsAnswered held freed watched (Some request) input text = IsTextTo request input text × IsToldBy held freed watched request.mode (task_of request input)

@@ -5,7 +5,7 @@ ghost use Rattle.command_words.specs.Words.{IsInRange};
 ghost use Rattle.call_ending.specs.Refusing.{IsRefusalOf};
 ghost use Rattle.ctm_call.specs.Answer.{IsTextBy, why_by, why_none};
 ghost use Rattle.ctm_call.specs.Telling.{IsAnswered, IsToldBy};
-ghost use Rattle.call_beginning.specs.Input.{IsInputOf, IsReadWhole, is_read, most_input, most_read};
+ghost use Rattle.call_beginning.specs.Input.{IsInputOf, IsReadWhole, asks_source, most_input, most_read};
 ghost use Rattle.call_beginning.specs.Task.{task_of};
 ghost use Rattle.call_beginning.specs.Words.{requested};
 
@@ -31,8 +31,8 @@ pub(crate) fn answer<R: Threads + Sync, S: Source, W: Observer>(
     ensures text { IfOk result (λ text. (input : List ℕ) × IsInputOf (requested words.now) (S.left source.old) input
         × IsAnswered (W.told_held observer.now) (W.told_freed observer.now) (W.told_watched observer.now) (requested words.now) input text.items) }
     ensures refusal { IfErr result (λ refusal. (input : List ℕ) × IsInputOf (requested words.now) (S.left source.old) input
-        × IsRefusalOf (why_none (requested words.now) input) ((is_read (requested words.now) ≡ true) × Rose (S.faults source.old) (S.faults source.new)) refusal) }
-    ensures unread { is_read (requested words.now) ≡ false → source.new ≡ source.old }
+        × IsRefusalOf (why_none (requested words.now) input) ((asks_source (requested words.now) ≡ true) × Rose (S.faults source.old) (S.faults source.new)) refusal) }
+    ensures unread { asks_source (requested words.now) ≡ false → source.new ≡ source.old }
     ensures at_end { OnOk result (IsReadWhole (requested words.now) (S.left source.new)) }
     ensures bounded { LosesAtMost (S.left source.old) (S.left source.new) (most_read (requested words.now)) }
 {

@@ -5,7 +5,7 @@ ghost use Rattle.call_ending.specs.Ending.{HasEnded, sink_use};
 ghost use Rattle.call_ending.specs.declared.status.Status.TheVariants as status;
 ghost use Rattle.ctm_call.specs.Answer.{why_none};
 ghost use Rattle.ctm_call.specs.Telling.{IsAnswered};
-ghost use Rattle.call_beginning.specs.Input.{IsInputOf, IsReadWhole, is_read, most_read};
+ghost use Rattle.call_beginning.specs.Input.{IsInputOf, IsReadWhole, asks_source, most_read};
 ghost use Rattle.call_beginning.specs.Words.{requested};
 
 use crate::answer::answer;
@@ -34,7 +34,7 @@ pub fn ctm<R: Threads + Sync, S: Source, O: Sink, E: Sink, W: Observer>(
     ensures ended { (input : List ℕ) × IsInputOf (requested words.now) (S.left source.old) input
         × HasEnded (IsAnswered (W.told_held observer.now) (W.told_freed observer.now) (W.told_watched observer.now) (requested words.now) input) (why_none (requested words.now) input)
         (IsReadWhole (requested words.now) (S.left source.new))
-        ((is_read (requested words.now) ≡ true) × Rose (S.faults source.old) (S.faults source.new))
+        ((asks_source (requested words.now) ≡ true) × Rose (S.faults source.old) (S.faults source.new))
         result
         (sink_use (O.taken out.old) (O.taken out.new) (out.new ≡ out.old) (Rose (O.faults out.old) (O.faults out.new)) (Rose (O.wants out.old) (O.wants out.new)))
         (sink_use (E.taken err.old) (E.taken err.new) (err.new ≡ err.old) (Rose (E.faults err.old) (E.faults err.new)) (Rose (E.wants err.old) (E.wants err.new))) }
@@ -46,7 +46,7 @@ pub fn ctm<R: Threads + Sync, S: Source, O: Sink, E: Sink, W: Observer>(
 
     // Where the words are refused or ask for a made network the source is as it was, and else it is read one byte past the
     // longest input at most.
-    ensures unread { is_read (requested words.now) ≡ false → source.new ≡ source.old }
+    ensures unread { asks_source (requested words.now) ≡ false → source.new ≡ source.old }
     ensures bounded { LosesAtMost (S.left source.old) (S.left source.new) (most_read (requested words.now)) }
 {
     let answer = answer(rt, alloc, words, source, observer);

@@ -15,7 +15,7 @@ use Rattle.region_cut.specs.Cuttings.{even_cutting, region_at}
 use Rattle.region_cut.proofs.EvenCutting.{even_cutting-IsCutting, length-even_cutting}
 use Rattle.cut_grow.specs.BestRuns.{IsBestIn}
 use Rattle.cut_grow.specs.CutConnectors.{cuts}
-use Rattle.cut_grow.specs.Grown.{IsInRuns, runs_from}
+use Rattle.cut_grow.specs.Grown.{IsCandidate, IsInRuns, runs_from}
 use Rattle.cut_grow.specs.Walk.{file_order}
 use Rattle.cut_grow.proofs.EvenSizes.{IsEvenSize, ceiling-even, ceiling-more}
 use Rattle.cut_grow.proofs.RunNumbers.{behind_first, in_first, length-runs_from, sum-cons}
@@ -163,6 +163,10 @@ even-in_runs net k some few enough = record {
   even = even-sizes_by (length net.cells) k some;
   runs = even-runs (length net.cells) k some;
 }
+
+-- so it is a candidate
+pub even-candidate : (net : Network) (k : ℕ) → 1 ≤ k → k ≤ most_regions → k ≤ length net.cells → IsCandidate net k (even_cutting (length net.cells) k)
+even-candidate net k some few enough = inl (even-in_runs net k some few enough)
 
 -- and a list that keeps as many connectors as the best in runs of the file order, or more, cuts no more than it
 pub best-no_more : (net : Network) (k : ℕ) (order best list : List ℕ) (least kept : ℕ) → 1 ≤ k → k ≤ most_regions → k ≤ length net.cells →

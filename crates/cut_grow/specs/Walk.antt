@@ -25,7 +25,7 @@ next_of net walk =
     let is_open = λ (x : ℕ). list_any (is_missing_beside net walk x) (file_order net) in
     option_map_or (λ x. least (is_missing_beside net walk x)) (find is_open walk) (least (is_missing walk))
 
--- its first n cells, of which there are as many as cells; of the empty walk the least missing cell is cell 0
+-- the first n cells of the walk, which has as many as the network; the first of all is cell 0
 unfoldable pub walk_to : Network → (n : ℕ) → List ℕ
 walk_to net zero = []
 walk_to net (suc n) = walk_to net n ++ next_of net (walk_to net n) ∷ []

@@ -7,7 +7,7 @@ abbrev pub first_share : (r p1 p2 : ℕ) → ℕ
 first_share r p1 p2 = p1 * r / (p1 + p2)
 
 -- of each sender all that it has, where there is room for all; else the middle of what it has, of what the other leaves, and
--- of its share, which is never negative
+-- of its share; that middle is never negative
 unfoldable pub merge_of : (s1 s2 r p1 p2 : ℕ) → ℕ × ℕ
 merge_of s1 s2 r p1 p2 =
     let share = pos (first_share r p1 p2) in

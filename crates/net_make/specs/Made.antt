@@ -75,7 +75,7 @@ signal_line drawn i = codes "signal,m" ++ decimal i ++ codes ",6," ++ decimal (d
 unfoldable pub signal_lines : (size seed : ℕ) → List (List ℕ)
 signal_lines size seed = map (λ i. signal_line (draw seed (1 + length (on_ramps size) + length (signals i))) i) (signals size)
 
--- a main cell lets 1 vehicle through in a step; none where there is but one
+-- the incident: a main cell lets 1 vehicle through in a step; there is no such line where there is but one main cell
 unfoldable pub incident : (size seed : ℕ) → List (List ℕ)
 incident size seed =
     let drawn = draw seed (1 + length (on_ramps size) + length (signals size)) in

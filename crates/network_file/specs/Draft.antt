@@ -21,7 +21,7 @@ pub record Draft : Type 0 where
   pub plan : PlanRecords
   pub regions : List RegionRecord
 
--- the draft of a file without records
+-- the draft of a file that has its header alone
 abbrev pub empty_draft : (format : ℕ) → Draft
 empty_draft format = record { format = format; steps = None; cells = []; connectors = []; plan = record { cells = [] }; regions = [] }
 

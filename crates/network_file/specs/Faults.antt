@@ -5,7 +5,7 @@ use Rattle.network_file.specs.declared.fault.NetFault.{NetFault}
 use Rattle.no_memory.specs.declared.refused.Refused.{Refused}
 use Rattle.no_memory.specs.declared.refused.Refused.TheVariants.{Fault, NoMemory}
 
--- the file has this fault in the record at this place
+-- the fault of this code in the record at this place
 abbrev pub fault_at : ℕ → Code → NetFault
 fault_at place code = record { place = place; code = code }
 

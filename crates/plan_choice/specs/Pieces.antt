@@ -15,6 +15,7 @@ is_separator line = bytes_eq line (codes "==\n") || bytes_eq line (codes "==\r\n
 unfoldable pub pieces_in : (input : List ℕ) → List (List ℕ)
 pieces_in input = map concat (slice_split is_separator (lines_in input))
 
--- the network files of an input's candidates: for each plan the bytes of the base, and behind them those of the plan
+-- the network files of an input's candidates, as many as it has separators: for each plan, in order, the bytes of the base, and
+-- behind them those of the plan
 abbrev pub candidates_in : (input : List ℕ) → List (List ℕ)
 candidates_in input = let pieces = pieces_in input in map (λ plan. slice_index_or pieces 0 [] ++ plan) (drop 1 pieces)

@@ -1,4 +1,4 @@
-/// How many separators an input has that has none or more than 16.
+/// The number of separators of an input that has none, or more than 16.
 #[derive(Clone, Copy, Debug, PartialEq, Eq)]
 pub struct PlanCount {
     /// Their number.

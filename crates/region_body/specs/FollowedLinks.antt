@@ -32,7 +32,7 @@ pub record IsFollowed (most : ℕ → ℕ → ℕ) (state : CellState) (links : 
   pub its : (d : FollowedLink) → (slice_index_or links m d).place ≡ p
   pub steady : (d : FollowedLink) (s : ℕ) → t ≤ s → s < (slice_index_or links m d).until → state.most ≡ most p s
 
--- each state has the most of all steps from t on, or a link follows it
+-- each link follows the most of its place, and each state has the most of all steps from t on, or a link follows it
 pub record AreFollowed (most : ℕ → ℕ → ℕ) (states : List CellState) (links : List FollowedLink) (t : ℕ) : Type 0 where
   pub timelines : All (IsTimeline most) links
   pub each : (p : ℕ) → p < length states →

@@ -26,7 +26,7 @@ constants_at constants p = slice_index_or constants p (record { first = 0; is_ex
 unfoldable pub rows_of : List CellConstants → List CellState → List Row
 rows_of constants states = map (λ p. row_of (constants_at constants p) (cell_state_at states p)) (range_with_len 0 (length constants))
 
--- the state and the constants are those of cell i: no sum of it runs below 0
+-- the constants are those of cell i, and no sum of the state runs below 0
 pub record IsOf (net : Network) (i : ℕ) (constants : CellConstants) (state : CellState) : Type 0 where
   pub first : constants.first ≡ first_at net.cells i
   pub exit : constants.is_exit ≡ is_exit_at net.cells i

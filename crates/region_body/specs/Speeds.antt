@@ -23,9 +23,9 @@ slowed_state state speed = record state { most = min state.most (arriving speed 
 unfoldable pub at_speeds : List CellState → (speeds : List (ℕ × ℕ)) → List CellState
 at_speeds states speeds = map (λ p. slowed_state (cell_state_at states p) (ratio_at speeds p)) (range_with_len 0 (length states))
 
--- states that can be swept by these zones, which lie where places are slow, in the whole fours before the last place: a place that isn't slow
--- has its road's own speed, one that is slow holds so little that a factor will do for its speed, and a list of speeds that isn't empty
--- has one for each place
+-- states that can be swept by these zones, which lie where places are slow, in the whole fours before the last place: a place
+-- that isn't slow has its road's own speed, one that is slow holds so little that a factor will do for its speed, and a list of
+-- speeds that isn't empty has one for each place
 pub record CanSweep (states : List CellState) (speeds : List (ℕ × ℕ)) (zones : List SpeedZone) : Type 0 where
   pub slow : ℕ → Bool
   pub laid : AreZones slow ((length states - 1) / 4) zones

@@ -1,5 +1,5 @@
 ghost use Rattle.std.specs.Prelude.{◌≡◌, ◌≢◌, false, ◌+◌, ◌*◌, ◌<◌, ◌≤◌, ◌^◌, ℕ, List, length};
-ghost use Rattle.region_body.specs.CellStates.{AreSound, carried, cell_state_at};
+ghost use Rattle.region_body.specs.CellStates.{AreSound, carried};
 ghost use Rattle.region_body.specs.Speeds.{CanSweep, slowed_state};
 ghost use Rattle.region_body.specs.Sweeping.{AreFew, IsSweptTo};
 ghost use Rattle.region_body.specs.declared.cell_state.CellState.{CellState as StateValue};

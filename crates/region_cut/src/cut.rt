@@ -24,7 +24,6 @@ impl Model for Cut {
 
     ghost Value = { List ℕ };
 
-    ghost use Rattle.no_memory.specs.Answers.{IsRefusal};
     ghost use Rattle.network_file.specs.Cutting.{IsCutting};
 
     ghost view = { λ cut. cut.regions.items };

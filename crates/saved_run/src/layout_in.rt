@@ -1,4 +1,4 @@
-ghost use Rattle.std.specs.Prelude.{◌≡◌, ℕ, List, Some, None, IfErr, IfOk, MatchOption, false, length, map, nat_lt};
+ghost use Rattle.std.specs.Prelude.{◌≡◌, ℕ, List, Some, None, IfErr, IfOk, MatchOption, false, map, nat_lt};
 ghost use Rattle.std.specs.List.{list_all};
 ghost use Rattle.no_memory.specs.Answers.{IfFault};
 ghost use Rattle.network_file.specs.declared.limits.TheConstants.{MOST_REGIONS};
