@@ -21,9 +21,9 @@ def by_ctm_on(net, number, *options):
 
 def by_sumo_on(net, ways, interval, *options):
     """The vehicle-hours of delay in SUMO, whose vehicles part in each interval of choice as the rows of an assignment say."""
-    from ctmtools.study.reading import read_study
+    from ctmtools.study.reading import read_scenario
 
-    roads, by_pair = Roads(net, read_study(f"{net}.toml")), defaultdict(list)
+    roads, by_pair = Roads(net, read_scenario(f"{net}.toml")), defaultdict(list)
     for row in ways:
         by_pair[row.source, row.into, row.seconds].append(row)
     taken, vehicles = defaultdict(Counter), []

@@ -101,7 +101,7 @@ def by_sumo(net, number):
 
 def iterate(net, times, *options):
     """Runs duaIterate so many times over NET.net.xml and NET.trips.xml; gives all its iterations."""
-    run("/usr/bin/python3", TOOLS / "assign" / "duaIterate.py", "-n", f"{net}.net.xml", "-t", f"{net}.trips.xml", "-l", times, *options)
+    run("/usr/bin/python3", "-Es", TOOLS / "assign" / "duaIterate.py", "-n", f"{net}.net.xml", "-t", f"{net}.trips.xml", "-l", times, *options)
     return [by_sumo(net, number) for number in range(times)]
 
 
@@ -122,10 +122,10 @@ def by_ctm(net, gap, rounds, *options):
     Their streets are those that are roads of the study, by SUMO's names, also where nobody drives.
     """
     from ctmtools.assignment.assigning import Assignment
-    from ctmtools.study.reading import read_study
+    from ctmtools.study.reading import read_scenario
 
     run(TOP / "ctm-tools", "import", "sumo", f"{net}.net.xml", "--routes", f"{net}.trips.xml", "--trips", *options, "-o", f"{net}.toml")
-    made, all_ = Assignment(read_study(f"{net}.toml"), 1), []
+    made, all_ = Assignment(read_scenario(f"{net}.toml"), 1), []
     made.start()
     streets = {name: street.getID() for name, street in Roads(net, made.study).street.items()}
     for done in made.rounds(gap, rounds):

@@ -17,7 +17,7 @@ while os.getppid() == starter:
 
 @contextlib.contextmanager
 def load_on_all_processors():
-    loads = [subprocess.Popen([sys.executable, "-c", LOAD]) for _ in os.sched_getaffinity(0)]
+    loads = [subprocess.Popen([sys.executable, "-I", "-c", LOAD]) for _ in os.sched_getaffinity(0)]
     try:
         yield len(loads)
     finally:

@@ -12,7 +12,7 @@ TOP = Path(__file__).resolve().parents[1]
 PROGRAMS = ("ctm_program", "ctm_wait")
 # All that packages are made of, as git takes its names, with what their pages link to. Other files may come and go.
 PACKAGED = ("crates", "crates.txt", "launcher", "packaging", "tools", "docs", "examples", "bench", "README.md", "CHANGELOG.md",
-            "CONTRIBUTING.md", "LICENSE-*")
+            "CONTRIBUTING.md", "SECURITY.md", "LICENSE-*")
 UNKNOWN = "unknown"
 
 

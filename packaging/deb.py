@@ -1,18 +1,20 @@
 """The package for Debian: the programs, the tools, manual pages, completions, documents also for a browser, and examples."""
 
 import os
-import tomllib
 from email.utils import formatdate
 from pathlib import Path
 
 from built import PROGRAMS, TOP, Built
+from dependencies import dependencies
 from standard_tool import call
 from tree import copy, lay_documents, lay_programs, lay_tools, put
 
 DEBIAN = TOP / "packaging/debian"
 PYTHON = "lib/python3/dist-packages"
 MACHINE = "amd64"
-MAPS = ("sumo", "osmium-tool")  # which make networks of maps
+EPOCHS = {"numpy": "1:"}  # which Debian has before the version of a package
+MAPS = ("sumo (>= 1.15)", "osmium-tool (>= 1.14)")  # which make networks of maps
+PAGES = "node-d3 (>= 5)"
 
 
 def make_deb(built: Built, work: Path) -> Path:
@@ -60,11 +62,11 @@ def lay_control(root: Path, built: Built, work: Path) -> None:
     for name in ("postinst", "prerm"):
         copy(DEBIAN / name, control / name, 0o755)
     size = sum(-(-path.stat().st_size // 1024) for path in root.rglob("*") if path.is_file())
-    needed = [libraries(root, work), "python3 (>= 3.11)", *python_packages()]
-    suggested = [*(name for extra in ("dask", "coordinates", "holidays") for name in python_packages(extra)), *MAPS]
+    needed = [libraries(root, work), "python3 (>= 3.11)", *as_debian_has_them(dependencies())]
+    suggested = [*as_debian_has_them(*map(dependencies, ("dask", "coordinates", "holidays"))), *MAPS]
     put(control / "control", (DEBIAN / "control.in").read_text().format(
         version=built.version, machine=MACHINE, size=size, needed=", ".join(needed),
-        recommended=", ".join([*python_packages("calibration"), "node-d3"]), suggested=", ".join(suggested)))
+        recommended=", ".join([*as_debian_has_them(*map(dependencies, ("calibration", "workbooks"))), PAGES]), suggested=", ".join(suggested)))
 
 
 def libraries(root: Path, work: Path) -> str:
@@ -74,8 +76,7 @@ def libraries(root: Path, work: Path) -> str:
     return told.strip().removeprefix("shlibs:Depends=")
 
 
-def python_packages(extra: str | None = None) -> list[str]:
-    """The packages of Debian that the tools need, or that an extra of theirs does."""
-    project = tomllib.loads((TOP / "tools/pyproject.toml").read_text())["project"]
-    names = project["optional-dependencies"][extra] if extra else project["dependencies"]
-    return [f"python3-{name}" for name in names]
+def as_debian_has_them(*needed: dict[str, tuple[str, str]]) -> list[str]:
+    """These packages by Debian's names, from their least version to below the next great one."""
+    return [f"python3-{name} ({sign} {EPOCHS.get(name, '')}{version})" for them in needed for name, (least, past) in them.items()
+            for sign, version in ((">=", least), ("<<", f"{past}~"))]

@@ -5,6 +5,8 @@ import sys
 import tempfile
 from pathlib import Path
 
+sys.path.append(str(Path(__file__).resolve().parents[1] / "launcher"))  # for the table of words
+
 from built import TOP, built_here
 from interruption import heed_interruption
 from prefix import Prefix
@@ -47,22 +49,31 @@ def installed(prefix: Prefix, program: Path, waiting_program: Path) -> str:
         lay_programs(tree, built)
         lay_documents(tree, DOCUMENTS + LICENSES)
         lay_tools(tree, "lib/ctm/python", TOP / "launcher/installed/ctm-tools")
+        copy(TOP / "tools/__main__.py", tree / "lib/ctm/python/__main__.py")
         copy(TOP / "tools/find-python", tree / "lib/ctm/find-python", 0o755)
+        copy(TOP / "launcher/path", tree / "lib/ctm/path")
         if prefix.has(tree):
             return f"{built.line} is installed under {prefix.folder} already; nothing was changed"
         prefix.refuse_what_is_anothers(tree)
-        prefix.install(tree)
+        stays = prefix.install(tree)
     commands = prefix.folder / "bin"
     on_path = str(commands) in os.environ.get("PATH", "").split(":")
     return f"{built.line} is installed under {prefix.folder}; its commands are in {commands}" + \
-        ("" if on_path else ", which isn't on the path")
+        ("" if on_path else ", which isn't on the path") + told_of(stays)
 
 
 def uninstalled(prefix: Prefix) -> str:
     """Takes away what was installed."""
-    if prefix.uninstall():
-        return f"what ./ctm installed under {prefix.folder} is taken away"
+    done, stays = prefix.uninstall()
+    if done:
+        return f"what ./ctm installed under {prefix.folder} is taken away{told_of(stays)}"
     return f"./ctm has installed nothing under {prefix.folder}; nothing was changed"
+
+
+def told_of(stays: list[str]) -> str:
+    """What couldn't be taken away, in the line of what was done."""
+    more = f" and {len(stays) - 1} more" if len(stays) > 1 else ""
+    return f"; {stays[0]}, and stays{more}" if stays else ""
 
 
 main(*sys.argv[1:])

@@ -4,11 +4,12 @@ import shutil
 from pathlib import Path
 
 import completions
+from bill import BILL, bill_of
 from built import PROGRAMS, TOP, Built
 from word_table import read_table
 
-DOCUMENTS = ("README.md", "CHANGELOG.md", "docs/*.md", "docs/how-to/*.md", "docs/pictures/*", "docs/inside/*.md",
-             "docs/inside/pictures/*", "examples/README.md", "examples/*.csv", "examples/*.toml", "examples/*.txt",
+DOCUMENTS = ("README.md", "CHANGELOG.md", "SECURITY.md", "docs/*.md", "docs/how-to/*.md", "docs/pictures/*", "docs/inside/*.md",
+             "docs/inside/pictures/*", "docs/web/*.md", "examples/README.md", "examples/*.csv", "examples/*.toml", "examples/*.txt",
              "examples/*.osm", "examples/*.plans", "examples/*.report", "examples/validation/*")
 TOOLS_DOCUMENTS = ("tools/README.md", "tools/docs/*.md")
 LICENSES = ("LICENSE-*",)
@@ -21,9 +22,10 @@ def lay_programs(folder: Path, built: Built) -> None:
     """The programs, their commands, manual pages and completions."""
     for name, path in zip(PROGRAMS, (built.program, built.waiting_program)):
         copy(path, folder / "lib/ctm" / name, 0o755)
-    for name in ("words", "words.table", "waiting"):
+    for name in ("words", "words.table", "waiting", "stack"):
         copy(TOP / "launcher" / name, folder / "lib/ctm" / name)
     put(folder / "lib/ctm/BUILD", built.note)
+    put(folder / "lib/ctm" / BILL, bill_of(built))
     for name in ("ctm", "ctm-wait"):
         copy(TOP / "launcher/installed" / name, folder / "bin" / name, 0o755)
         copy(TOP / f"docs/{name}.1", folder / f"share/man/man1/{name}.1")

@@ -25,7 +25,7 @@ def make_wheel(built: Built, work: Path) -> Path:
     (sources / "setup.cfg").write_text(f"[bdist_wheel]\nplat_name = {PLATFORM}\n")
     set_times(sources, built.seconds)
     makes = f"from setuptools.build_meta import build_wheel; build_wheel({str(work)!r})"
-    call(sys.executable, "-B", "-c", makes, cwd=sources, seconds=built.seconds)
+    call(sys.executable, "-I", "-B", "-c", makes, cwd=sources, seconds=built.seconds)
     shutil.rmtree(sources)
     return next(work.glob("*.whl"))
 

@@ -57,6 +57,15 @@ def run(program):
     return lambda words, **streams: ended([program, *words], **streams)
 
 
+@pytest.fixture(scope="session")
+def wait():
+    """Runs the program whose workers wait on these words."""
+    path = os.environ.get("CTM_WAIT_PROGRAM", TOP / "crates/ctm_wait/out/ctm_wait")
+    if not os.path.exists(path):
+        pytest.skip("ctm_wait isn't built: ./ctm-wait --path builds it")
+    return lambda words, **streams: ended([path, *words], **streams)
+
+
 @pytest.fixture
 def directory():
     """A stream of which each read fails."""

@@ -83,6 +83,10 @@ class Repository:
     def proved(self):
         return [name for _, name, _ in self.events("began")]
 
+    def goes_on_until(self, name, *events):
+        """The crate is at work until these stand in the log, as `ended side`, however slow the machine is."""
+        (self.top / "crates" / name / "src/until").write_text("".join(f"{event}\n" for event in events))
+
     def edit(self, name, text="// changed\n"):
         with open(self.top / "crates" / name / "src/lib.rt", "a") as file:
             file.write(text)

@@ -1,4 +1,4 @@
-#!/usr/bin/env python3
+#!/usr/bin/env -S python3 -Es
 """The recurrences of docs/MODEL.md once more, plainly and in whole parts, to compare the program's records with.
 
 As a program it takes `run [--every E]` as the proved one does, over a file without faults and without quotes.

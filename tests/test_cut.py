@@ -34,6 +34,23 @@ def test_a_grown_cutting(content, text, run):
     hold((0, text, b""), run(["cut", "--regions", "2"], input=content))
 
 
+TIED = lines("ctm,1; steps,1; gate,a,2,0; exit,b,2; exit,c,2; exit,d,2; diverge,a,c,d,1,1")
+
+
+def test_of_two_orders_that_cut_as_few_it_is_that_of_the_file(run):
+    """In two regions of two cells the file's order gives a b | c d, and the walk a c | d b. Both cut the diverge."""
+    hold((0, lines("cut,2,1,1; cell,a,0; cell,b,0; cell,c,1; cell,d,1"), b""), run(["cut", "--regions", "2"], input=TIED))
+
+
+def test_of_two_cuttings_in_one_order_each_call_gives_the_same(run):
+    """No connector is cut by a | b c, nor by a b | c."""
+    content = lines("ctm,1; steps,1; exit,a,2; exit,b,2; exit,c,2")
+    texts = [lines(f"cut,2,0,0; cell,a,0; cell,b,{middle}; cell,c,1") for middle in (0, 1)]
+    told = run(["cut", "--regions", "2"], input=content)
+    assert told in [(0, text, b"") for text in texts]
+    hold(told, run(["cut", "--regions", "2"], input=content))
+
+
 def test_one_region_and_as_many_as_cells(run):
     hold((0, lines("cut,1,0,0; cell,in,0; cell,a,0; cell,out,0"), b""), run(["cut"], input=CORRIDOR))
     hold((0, lines("cut,3,2,2; cell,in,0; cell,a,1; cell,out,2"), b""), run(["cut", "--regions", "512"], input=CORRIDOR))

@@ -25,8 +25,9 @@ rt: ok; handles allowed: none
 4 passed, 0 failed
 """
 CHECKS = ["tests/plays", "tests/program", "tests/launcher", "examples/check", "tools/check"]
-# What a check does: it passes, and it tells how many cases each of its test files has.
-PASSING = """case "$*" in *--collect-only*) echo 'test_it.py: 9000' ;; *) echo 9000 passed in 1.00s ;; esac"""
+MADE_RUNS = ["bench/stress-wait", "tests/fuzz"]  # over made input, as long as they run, so no list has how many there are
+# What a check does: it passes, and it tells the cases of its test file.
+PASSING = """case "$*" in *--collect-only*) printf 'test_it.py::test_%s\\n' {1..9000} ;; *) echo 9000 passed in 1.00s ;; esac"""
 HANDLES = "Handles allowed: Threads, Wait.\n"
 
 
@@ -56,7 +57,13 @@ class Gate:
         for check in CHECKS:
             self.script(check, PASSING)
         self.script("examples/check", "echo 1 passed")
+        for check in MADE_RUNS:
+            self.script(check, "echo 7 passed")
+        for script in ("check", "tools/find-python"):
+            shutil.copy(TOP / script, self.top / script)
         self.ci()
+        for folder in ("tests", "tools/tests"):
+            self.write(f"{folder}/left_out_on_trials.txt", "")
         for script in (".ci/contracts", ".ci/counts"):
             subprocess.run([self.top / script], check=True)
 
@@ -102,7 +109,7 @@ def gate(tmp_path, passing_gate):
 
 def test_a_gate_that_passes_says_how_many_checks_of_each_sort_ran(gate):
     status, told = gate.run()
-    assert told[-1] == (".ci/run: passed: 6 crates proved, 2 edits refused, 5 tests of crates passed, 9000 of tests/plays, "
+    assert told[-1] == ("./check: passed: 6 crates proved, 2 edits refused, 5 tests of crates passed, 9000 of tests/plays, "
                         "9000 of tests/program, 9000 of tests/launcher, 1 of examples/check, 9000 of tools/check")
     assert status == 0
 
@@ -162,10 +169,10 @@ def without(gate, path, part):
     broken(lambda gate: without(gate, "crates/low/src/lib.rt", "ensures half { result ≡ n / 2 }"),
            "-low/src/lib.rt half: ensures half { result ≡ n / 2 }"),
     broken(lambda gate: os.rename(gate.top / "crates/low/must-fail/one.edit", gate.top / "crates/low/must-fail/won.edit"),
-           "-edit low one"),
+           "-edit low one "),
     broken(lambda gate: without(gate, "crates.txt", "trials tests_may=Threads: top\n"), "-crate trials"),
-    broken(lambda gate: gate.replace("crates/trials/src/lib.rt", "trial_2", "trial_two"), "-test trials lib trial_2"),
-    broken(lambda gate: without(gate, "crates/top/stdin", "steps,2\n"), "-run top stdin 2"),
+    broken(lambda gate: gate.replace("crates/trials/src/lib.rt", "trial_2", "trial_two"), "-test trials lib trial_2 "),
+    broken(lambda gate: without(gate, "crates/top/stdin", "steps,2\n"), "-run top stdin 2 "),
     broken(lambda gate: gate.script("tests/program", PASSING.replace("test_it.py", "test_other.py")),
            "-cases tests/program test_it.py 9000"),
     broken(lambda gate: os.remove(gate.top / "examples/one.report"), "-cases examples/check 1"),
@@ -176,19 +183,32 @@ def without(gate, path, part):
     broken(lambda gate: [gate.write("crates/no_memory/out/proved/no_memory.rlib/earlier", ""), gate.script("launcher/prove", "")],
            "launcher/prove made no library of no_memory"),
     *[broken(lambda gate, check=check: os.remove(gate.top / check), f"{check}: no cases passed, and") for check in CHECKS],
+    *[broken(lambda gate, check=check: gate.script(check, "exit 0"), f"{part}: no cases passed")
+      for part, check in (("stress", "bench/stress-wait"), ("fuzz", "tests/fuzz"), ("handles", "launcher/check_handles"))],
+    *[broken(lambda gate, check=check: gate.script(check, "echo 0 passed"), f"{part}: no cases passed")
+      for part, check in (("small-proof", "launcher/check_small_proof"), ("contracts", ".ci/contracts"))],
+    *[broken(lambda gate, check=check: gate.script(check, "echo 7 passed; exit 1"), f"{check} fails") for check in MADE_RUNS],
+    broken(lambda gate: gate.script("bench/stress-wait", "echo 8 passed"), "-file bench/stress-wait "),
     broken(lambda gate: gate.script("tests/program", PASSING.replace("9000 passed", "8999 passed")),
            "tests/program: 8999 cases passed, and 9000 are to"),
     broken(lambda gate: gate.script("tools/check", PASSING.replace("9000 passed", "9001 passed")),
            "tools/check: 9001 cases passed, and 9000 are to"),
     broken(lambda gate: gate.script("tests/launcher", f"{PASSING}; exit 1"), "tests/launcher fails"),
-    broken(lambda gate: gate.script("tools/check", PASSING.replace("passed", "passed, 1 skipped")), "tools/check: cases were left out"),
+    *[broken(lambda gate, left=left: gate.script("tools/check", PASSING.replace("passed", f"passed, 1 {left}")),
+             "tools/check: cases were left out") for left in ("skipped", "deselected", "xfailed")],
+    broken(lambda gate: gate.script("tools/setup", "exit 0"), "-file tools/setup "),
 ])
 def test_a_gate_in_which_something_is_broken_fails(gate, change, told):
     change(gate)
     status, lines = gate.run()
     assert status >= 1
-    assert lines[-1].startswith(".ci/run: FAILED, status ")
+    assert lines[-1].startswith("./check: FAILED, status ")
     assert told.endswith(" fails") or any(told in line for line in lines)
+
+
+def test_a_gate_without_what_sets_it_up_fails(gate):
+    os.remove(gate.top / "tools/setup")
+    assert gate.run() == (2, ["./check: tools/setup can't be run: No such file or directory; nothing was run"])
 
 
 def test_the_status_is_the_worst(gate):
@@ -231,15 +251,16 @@ def setup_with(tmp_path, user, sudo="exit 1", install="exit 0"):
     return ended.returncode, ended.stderr, calls.read_text().splitlines() if calls.exists() else []
 
 
-INSTALLED = ["update -qq", "install -qq -y --no-install-recommends python3-pytest"]
+INSTALLED = ["update -qq", "install -qq -y --no-install-recommends -o DPkg::Lock::Timeout=600 python3-pytest"]
+BEGUN = "tools/setup: installing 1 packages of Debian\n"
 
 
 def test_setup_installs_what_is_missing_as_root(tmp_path):
-    assert setup_with(tmp_path, user=0) == (0, "", INSTALLED)
+    assert setup_with(tmp_path, user=0, install="echo Unpacking") == (0, BEGUN, INSTALLED)
 
 
 def test_setup_installs_by_a_sudo_that_asks_for_no_password(tmp_path):
-    assert setup_with(tmp_path, user=1000, sudo='[ "$1" = -n ] || "$@"') == (0, "", INSTALLED)
+    assert setup_with(tmp_path, user=1000, sudo='[ "$1" = -n ] || "$@"') == (0, BEGUN, INSTALLED)
 
 
 def test_setup_prints_the_one_line_where_it_may_not(tmp_path):
@@ -248,5 +269,6 @@ def test_setup_prints_the_one_line_where_it_may_not(tmp_path):
 
 
 def test_setup_tells_where_nothing_could_be_installed(tmp_path):
-    status, told, _ = setup_with(tmp_path, user=0, install="exit 100")
-    assert (status, told) == (2, "tools/setup: apt-get could not install python3-pytest\n")
+    status, told, _ = setup_with(tmp_path, user=0, install='[ "$1" = update ] || { seq 100; exit 100; }')
+    last = "".join(f"{number}\n" for number in range(81, 101))
+    assert (status, told) == (2, f"{BEGUN}{last}tools/setup: apt-get could not install python3-pytest\n")

@@ -6,7 +6,6 @@ import re
 import shutil
 import signal
 import subprocess
-import sys
 import time
 
 import pytest
@@ -15,8 +14,9 @@ from launched import JOBS, PATIENCE
 
 
 def test_crates_are_proved_side_by_side_the_longest_chain_first(repository):
-    for name in ("low", "long", "side"):
-        (repository.top / "crates" / name / "src/seconds").write_text("6\n")
+    repository.goes_on_until("low", "began other")
+    repository.goes_on_until("long", "began side")
+    repository.goes_on_until("side", "began long")
     err = repository.call("run")[2]
     events = repository.events()
     assert [name for kind, name, _ in events if kind == "began"][:2] in (["low", "other"], ["other", "low"])
@@ -29,11 +29,15 @@ def test_crates_are_proved_side_by_side_the_longest_chain_first(repository):
     assert order.index(("ended", "low")) < order.index(("began", "long"))
     assert "unused" not in dict(order).values()
     first = err.splitlines()[0]
-    assert "6 crates takes" in first and "./ctm --try WORDS gives a result meanwhile" in first
+    # Of 95 s: those of `low`, `long`, `top` and `ctm_program`, one behind the other, by 4 jobs each.
+    assert "6 crates, of which 6 are left, takes about 2 min on 4 processors like those of docs/inside/MAP.md" in first
+    assert "the first crates show how long it takes on these" in first
+    assert "./ctm --try WORDS gives a result meanwhile, without a proof, in about a minute" in first
     assert all(re.search(r"after \d+ min \d+ s; .* left$", line) for line in err.splitlines()[1:-1])
 
 
 def test_a_crate_that_is_proved_alone_gets_all_processors(repository):
+    repository.goes_on_until("long", "ended side", "ended other")
     repository.call("run")
     jobs = {name: int(jobs) for kind, name, jobs in repository.events("began")}
     assert jobs["long"] == jobs["top"] == jobs["ctm_program"] == JOBS
@@ -126,6 +130,46 @@ def test_the_time_that_is_left():
     assert float(schedule_of_three(left, c=28)) == pytest.approx(10 / 1.3 + 28 - 10 / 1.3 * 0.7)
 
 
+SLOW_HOST = """
+import random, sys
+sys.path.insert(0, "launcher")
+from crates import Crates
+from pace import Pace
+from schedule import Schedule
+
+slower, seed, crates = float(sys.argv[1]), sys.argv[2], Crates(".", "ctm_program")
+schedule = Schedule(crates.names, crates.uses, crates.costs(), 4, 8)
+draw = random.Random(seed)
+host = {name: cost * slower * draw.uniform(0.8, 1.25) for name, cost in schedule.costs.items()}
+pace, done, jobs, left, starts, now, told = Pace(schedule, set()), set(), {}, {}, {}, 0, None
+while len(done) < len(crates.names):
+    start = schedule.next_start(done, jobs)
+    if start:
+        name, jobs[start[0]] = start
+        left[name], starts[name] = host[name], now
+        continue
+    speeds = schedule.speeds(jobs)
+    step = min(left[it] / speeds[it] for it in jobs)
+    now += step
+    left = {it: left[it] - step * speeds[it] for it in jobs}
+    for it in [it for it in jobs if left[it] < 1e-6]:
+        done.add(it)
+        del jobs[it], left[it]
+        if len(done) == 5:
+            told = now, pace.seconds_left(done, jobs, {it: now - starts[it] for it in jobs}, now)
+print(told[1] / (now - told[0]))
+"""
+
+
+@pytest.mark.parametrize("seed", range(3))
+@pytest.mark.parametrize("slower", [0.5, 1, 2, 4])
+def test_the_time_that_is_left_on_a_host_of_another_pace(slower, seed):
+    """A host that takes so many times the cost of each crate, a fifth more or less. After five crates the time that is left is told
+    within a third."""
+    told = subprocess.run(["python3", "-B", "-c", SLOW_HOST, str(slower), str(seed)], cwd=TOP, stdout=subprocess.PIPE, check=True)
+    assert 2 / 3 < float(told.stdout) < 4 / 3
+
+
 def test_a_crate_that_comes_first_waits_for_no_other():
     assert schedule_of_three("next_start({'a'}, {'c': 1, 'd': 1})") == "('b', 2)"
     assert schedule_of_three("next_start(set(), {'a': 2, 'd': 1})") == "None"
@@ -149,8 +193,3 @@ def test_each_crate_of_the_program_has_a_check_time():
             "print(*{*crates.names} - {*proof_times('launcher/check_times.csv')})")
     lacking = subprocess.run(["python3", "-B", "-c", asks], cwd=TOP, stdout=subprocess.PIPE, check=True).stdout
     assert lacking.split() == []
-
-
-def test_the_map_has_the_check_times_of_the_file():
-    """tools/documents writes them into it."""
-    subprocess.run([sys.executable, "-B", TOP / "packaging/documents.py", "--check", "docs/inside/MAP.md"], check=True)

@@ -50,19 +50,25 @@ def cells(row):
 
 
 MODES = dict(re.findall(r'"(\w+)" => Some\(Mode::(\w+)\)', source("command_words/src/mode.rt")))
-SETTINGS = {variant: (word, values, default) for variant, word, values, default in re.findall(
-    r'Setting::(\w+) => Terms::new\("(\w+)", Values::(.+), (\d+)\),', source("command_words/src/setting.rt"))}
+# The words of the options by their variants.
+SETTINGS = {variant: word.strip('"') for variant, word in arms(function("command_words/src/setting.rt", "word")).items()}
 
 
-def spelled(values):
-    """The values of an option as the table of words has them, and what each stands for."""
-    kind, _, rest = values.partition("(")
-    parts = [part.strip("&[]\" ").replace("_", "") for part in rest.removesuffix(")").split(",")]
-    if kind == "Words":
-        return ",".join(parts), parts
-    if kind == "NumbersOr":
-        return f"1..{parts[0]},{parts[1]}", None
-    return "..".join(parts), None
+def options():
+    """The values of each option as the table of words has them, and its default, by how the crate reads them."""
+    reading = source("command_words/src/reading.rt")
+    kinds = re.findall(r'"(\w+)" => Some\(CutKind::(\w+)\)', source("command_words/src/cut_kind.rt"))
+    path = "command_words/src/region_choice.rt"
+    least, other = re.search(r"number_within\(text, (\d+), MOST_REGIONS\)", source(path))[1], re.search(r'text == "(\w+)"', source(path))[1]
+    found = {
+        "Cutting": (",".join(word for word, _ in kinds),
+                    {kind: word for word, kind in kinds}[re.search(r"None => Some\(CutKind::(\w+)\)", reading)[1]]),
+        "Regions": (f"{least}..{constant(path, 'MOST_REGIONS')},{other}",
+                    re.search(r"None => Some\(RegionChoice::Count\((\d+)\)\)", reading)[1])}
+    for variant, *numbers in re.findall(r"given\.number\(Setting::(\w+), ([\d_]+), ([\d_]+), ([\d_]+)\)", reading):
+        least, most, default = (number.replace("_", "") for number in numbers)
+        found[variant] = (f"{least}..{most}", default)
+    return {SETTINGS[variant]: found[variant] for variant in SETTINGS}
 
 
 def test_the_modes_are_those_of_the_crate():
@@ -70,18 +76,14 @@ def test_the_modes_are_those_of_the_crate():
 
 
 def test_the_options_with_their_values_and_defaults_are_those_of_the_crate():
-    assert [word for word, _, _ in SETTINGS.values()] == list(TABLE.options)
-    for word, values, default in SETTINGS.values():
-        text, places = spelled(values)
-        option = TABLE.options[word]
-        assert (option.values, option.default) == (text, places[int(default)] if places else default)
+    assert list(options().items()) == [(word, (option.values, option.default)) for word, option in TABLE.options.items()]
 
 
 def test_each_mode_has_the_options_that_the_crate_takes():
     taken = {word: set() for word in MODES}
     for mode, settings in re.findall(r"\(Mode::(\w+), (Setting::[^)]+)\) => true", source("command_words/src/mode.rt")):
         word = next(word for word, variant in MODES.items() if variant == mode)
-        taken[word] |= {SETTINGS[variant][0] for variant in re.findall(r"Setting::(\w+)", settings)}
+        taken[word] |= {SETTINGS[variant] for variant in re.findall(r"Setting::(\w+)", settings)}
     assert taken == {mode.word: set(mode.options) for mode in TABLE.modes.values()}
 
 
@@ -96,7 +98,7 @@ def test_the_input_of_each_mode_is_as_long_as_in_the_crates():
 
 def test_the_word_of_ctm_wait_is_that_of_its_crate():
     path = "wait_call/src/words.rt"
-    assert re.findall(r"Values::Numbers\((\d+), MOST_WORKERS\)", source(path)) == ["1"]
+    assert re.findall(r"number_within\(word, (\d+), MOST_WORKERS\)", source(path)) == ["1"]
     assert TABLE.waiting == f"1..{constant(path, 'MOST_WORKERS')}"
 
 
@@ -137,7 +139,7 @@ def test_the_codes_of_faults_are_those_of_the_crates():
 
 def first_format(text):
     """The first format that has a kind of record, by what is told of it."""
-    told = re.search(r"in format (\d)", text)
+    told = re.search(r"(?:in|from) format (\d)", text)
     return told[1] if told else "1"
 
 
@@ -198,12 +200,12 @@ def test_the_limits_of_what_options_ask_for_are_those_of_the_crates(text, known)
     ("has no [separator](#plans) or more than {};", constant("plan_choice/src/pieces.rt", "MOST_PLANS")),
     ("| Most cells, connectors, limits and demands | {} of each |",
      constant("network_file/src/limits.rt", "MOST_RECORDS_OF_FORMAT_1")),
-    (" of each | {} of each |", constant("signal_plan/src/bounds.rt", "MOST_RECORDS")),
-    ("| Most turns | none | {} |", constant("signal_plan/src/bounds.rt", "MOST_RECORDS")),
-    ("| Most speeds | none | none | {} |", constant("signal_plan/src/bounds.rt", "MOST_RECORDS")),
+    (" of each | {} of each |", constant("step_plan/src/bounds.rt", "MOST_RECORDS")),
+    ("| Most turns | none | {} |", constant("step_plan/src/bounds.rt", "MOST_RECORDS")),
+    ("| Most speeds | none | none | {} |", constant("step_plan/src/bounds.rt", "MOST_RECORDS")),
     ("; `NUM`: whole 1 to {:d};", constant("fixed_flow/src/share.rt", "MOST_RATIO")),
-    ("`T`: whole 1 to {:d} |", constant("signal_plan/src/bounds.rt", "MOST_STEPS")),
-    ("`cycle`: whole 1 to {:d};", constant("signal_plan/src/bounds.rt", "MOST_STEPS")),
+    ("`T`: whole 1 to {:d} |", constant("step_plan/src/bounds.rt", "MOST_STEPS")),
+    ("`cycle`: whole 1 to {:d};", constant("step_plan/src/bounds.rt", "MOST_STEPS")),
     ("`A`: whole 1 to {:d}; `B`: whole `A` to", constant("fixed_flow/src/share.rt", "MOST_RATIO")),
     ("; `P1`: whole 1 to {:d};", constant("fixed_flow/src/share.rt", "MOST_RATIO")),
     ("; `B1`: whole 1 to {:d};", constant("fixed_flow/src/share.rt", "MOST_RATIO")),

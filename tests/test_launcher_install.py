@@ -1,5 +1,7 @@
 """./ctm --install and --uninstall: what stands under the prefix before, after, and where a call is broken off."""
 
+import errno
+import hashlib
 import itertools
 import os
 import re
@@ -16,7 +18,7 @@ from prefix import Prefix
 from problem import Problem
 
 PLAIN = {"PATH": "/usr/bin:/bin", "HOME": "/nonexistent"}
-# What changes a file system, by the names under which Python tells it.
+# What changes a file system, by the names under which Python tells it; so does what is opened to be written.
 CHANGES = {"os.mkdir", "os.symlink", "os.rename", "os.remove", "os.rmdir", "os.chmod", "shutil.copyfile"}
 KILLED = 9
 
@@ -27,7 +29,8 @@ def installing(built):
     for folder in ("packaging", "docs", "examples"):
         shutil.copytree(TOP / folder, built.top / folder, ignore=shutil.ignore_patterns("__pycache__"))
     shutil.copytree(TOP / "tools/ctmtools", built.top / "tools/ctmtools", ignore=shutil.ignore_patterns("__pycache__"))
-    for path in ("README.md", "CHANGELOG.md", "LICENSE-MIT", "tools/README.md", "tools/find-python"):
+    for path in ("README.md", "CHANGELOG.md", "LICENSE-MIT", "tools/README.md", "tools/find-python", "tools/__main__.py",
+                 "tools/pyproject.toml"):
         shutil.copy(TOP / path, built.top / path)
     return built
 
@@ -151,6 +154,189 @@ def test_what_another_has_beside_it_stays(tmp_path):
     assert {path for path, what in standing(prefix.folder).items() if what is not None} == {*others, "bin/linked"}
 
 
+NO_TEXT = b"\xff\xfe"
+
+
+def put_note(folder, content):
+    folder.mkdir()
+    (folder / "files").write_bytes(content)
+
+
+# What another may have put beside the installed tree, under names like its own: each makes it, and names it.
+BESIDE = {
+    "a folder": lambda home, elsewhere: (home / "tree-NAME/deep").mkdir(parents=True) or (home / "tree-NAME/deep/own").write_text("own\n"),
+    "a file": lambda home, elsewhere: (home / "tree-note").write_text("own\n"),
+    "a link": lambda home, elsewhere: (home / "tree-link").symlink_to(elsewhere),
+    "a link to nothing": lambda home, elsewhere: (home / "tree-gone").symlink_to("gone"),
+    "a folder with the form of its names": lambda home, elsewhere: shutil.copytree(elsewhere, home / f"tree-{'0' * 64}"),
+    "a note that is no text": lambda home, elsewhere: put_note(home / f"tree-{hashlib.sha256(NO_TEXT).hexdigest()}", NO_TEXT),
+    "a link with the form of its names": lambda home, elsewhere: (home / f"tree-{'0' * 64}").symlink_to(elsewhere),
+    "a file that is only written": lambda home, elsewhere: (home / ".part").write_text("own\n"),
+}
+
+
+@pytest.mark.parametrize("puts", BESIDE.values(), ids=BESIDE)
+def test_what_another_put_beside_the_tree_stays_and_each_call_can_be_made(tmp_path, puts):
+    prefix, old, new = Prefix(tmp_path / "prefix"), small_tree(tmp_path / "old", "old"), small_tree(tmp_path / "new", "new")
+    elsewhere = tmp_path / "elsewhere"
+    elsewhere.mkdir()
+    (elsewhere / "own").write_text("own\n")
+    prefix.install(old)
+    before = {*standing(prefix.home)}
+    puts(prefix.home, elsewhere)
+    own = {path: what for path, what in standing(prefix.home).items() if path not in before}
+    for does, wanted in ((lambda: prefix.install(new), "new"), (prefix.uninstall, None), (lambda: prefix.install(old), "old"),
+                         (prefix.uninstall, None)):
+        does()
+        assert says(prefix.folder) == wanted
+        assert own.items() <= standing(prefix.home).items() and (elsewhere / "own").read_text() == "own\n"
+    assert standing(prefix.home) == own
+
+
+def damaged(change):
+    return lambda note, own: note.write_bytes(change(note.read_bytes()))
+
+
+def replaced(by):
+    return lambda note, own: note.unlink() or by(note)
+
+
+# What may have become of the note of the installed files: each gets its path, and that of a file of the user's in the tree.
+DAMAGES = {
+    "missing": lambda note, own: note.unlink(),
+    "empty": damaged(lambda text: b""),
+    "cut off": damaged(lambda text: text[:len(text) // 2]),
+    "no text": damaged(lambda text: b"\xff\n" * 9),
+    "with the user's file": lambda note, own: note.write_text(note.read_text() + f"{sum_of(own)} 644 share/doc/ctm/own\n"),
+    "with a file elsewhere": lambda note, own: note.write_text(note.read_text() + f"{sum_of(own)} 644 ../../../../own\n"),
+    "a link": replaced(lambda note: note.symlink_to("/dev/null")),
+    "a folder": replaced(lambda note: note.mkdir()),
+}
+
+
+def sum_of(path):
+    return hashlib.sha256(path.read_bytes()).hexdigest()
+
+
+@pytest.mark.parametrize("damages", DAMAGES.values(), ids=DAMAGES)
+def test_where_the_note_is_damaged_no_file_of_the_user_s_is_lost_and_each_call_can_be_made(tmp_path, damages):
+    prefix, old, new = Prefix(tmp_path / "prefix"), small_tree(tmp_path / "old", "old"), small_tree(tmp_path / "new", "new")
+    prefix.install(old)
+    own = (prefix.home / "current/share/doc/ctm/own").resolve()
+    for path in own, tmp_path / "own":
+        path.write_text("own\n")
+    damages(prefix.home / "current/files", own)
+    for does, wanted in ((prefix.uninstall, None), (lambda: prefix.install(old), "old"), (lambda: prefix.install(new), "new"),
+                         (prefix.uninstall, None), (prefix.uninstall, None)):
+        does()
+        assert says(prefix.folder) == wanted
+        assert own.read_text() == (tmp_path / "own").read_text() == "own\n"
+
+
+def noted(folder):
+    return hashlib.sha256(os.fsencode(folder)).hexdigest().encode() + b" " + os.fsencode(folder) + b"\0"
+
+
+@pytest.mark.parametrize("entry", [noted, lambda folder: os.fsencode(folder) + b"\0", lambda folder: os.fsencode(folder),
+                                   lambda folder: noted(folder)[:-9]])
+def test_no_folder_elsewhere_is_removed_whatever_the_note_of_folders_has(tmp_path, entry):
+    prefix, tree = Prefix(tmp_path / "prefix"), small_tree(tmp_path / "tree", "new")
+    prefix.install(tree)
+    others = [tmp_path / "elsewhere", prefix.folder / "share/own", prefix.folder / "bin/own"]
+    for other in others:
+        other.mkdir()
+        with open(prefix.home / "folders", "ab") as note:
+            note.write(entry(other))
+    prefix.uninstall()
+    assert all(other.is_dir() for other in others)
+    prefix.install(tree)
+    assert says(prefix.folder) == "new"
+
+
+@pytest.mark.parametrize("place", ["share/doc/ctm/README.md", "lib/ctm/old"])
+def test_an_installed_file_that_was_changed_is_not_lost(tmp_path, place):
+    prefix, old, new = Prefix(tmp_path / "prefix"), small_tree(tmp_path / "old", "old"), small_tree(tmp_path / "new", "new")
+    prefix.install(old)
+    with open(prefix.current / place, "a") as file:
+        file.write("own\n")
+    before = standing(prefix.folder)
+    told = f"{prefix.current / place} was changed since ./ctm installed it and would be lost; nothing was changed"
+    for does in (lambda: prefix.install(new), prefix.uninstall):
+        with pytest.raises(Problem, match=f"^{re.escape(told)}$"):
+            does()
+        assert standing(prefix.folder) == before
+    (prefix.current / place).unlink()
+    prefix.install(old)
+    assert standing(prefix.folder).keys() == before.keys() and prefix.has(old)
+
+
+# Where a link may have been put in the place of what was installed, and whether it leads to a folder or to a file.
+PLACES = ["lib/ctm/current", "lib/ctm/folders", "lib/ctm/current/share/doc/ctm", "lib/ctm/current/bin/ctm", "bin/ctm", "share/doc/ctm"]
+
+
+@pytest.mark.parametrize("place", PLACES)
+def test_behind_a_link_that_another_placed_nothing_is_touched(tmp_path, place):
+    """It leads to a copy of what stood there, which is the user's own. Both calls can be made once it is gone."""
+    prefix, tree, new = Prefix(tmp_path / "prefix"), small_tree(tmp_path / "tree", "old"), small_tree(tmp_path / "new", "new")
+    prefix.install(tree)
+    at, own = prefix.folder / place, tmp_path / "own"
+    (shutil.copytree if at.is_dir() else shutil.copy)(at, own)
+    if at.is_dir() and not at.is_symlink():
+        shutil.rmtree(at)
+    else:
+        at.unlink()
+    at.symlink_to(own)
+    before = standing(own) if own.is_dir() else own.read_bytes()
+    for does in (lambda: prefix.refuse_what_is_anothers(new) or prefix.install(new), prefix.uninstall):
+        try:
+            does()
+        except Problem as problem:
+            assert "nothing was changed" in str(problem)
+        assert (standing(own) if own.is_dir() else own.read_bytes()) == before
+        assert not at.is_symlink() or os.readlink(at) == str(own) or not os.path.lexists(own)
+    if at.is_symlink():
+        at.unlink()
+    prefix.install(new)
+    assert says(prefix.folder) == "new"
+    prefix.uninstall()
+    assert says(prefix.folder) is None
+
+
+def test_what_python_keeps_of_the_installed_modules_goes_with_them_and_nothing_else_beside_it(tmp_path):
+    prefix, tree = Prefix(tmp_path / "prefix"), small_tree(tmp_path / "tree", "new")
+    (tree / "lib/ctm/module.py").write_text("")
+    prefix.install(tree)
+    kept = prefix.current / "lib/ctm/__pycache__"
+    kept.mkdir()
+    (kept / "module.cpython-311.pyc").write_text("")
+    (kept / "module.cpython-311.pyc.139872").write_text("")
+    (kept / "own.pyc").write_text("")
+    with pytest.raises(Problem, match="own.pyc wasn't installed by ./ctm and would be lost"):
+        prefix.uninstall()
+    (kept / "own.pyc").unlink()
+    prefix.uninstall()
+    assert not prefix.folder.exists()
+
+
+def test_what_cannot_be_taken_away_is_told_and_stays(tmp_path, monkeypatch):
+    """Once the new stands in the place of the old, what the system says of the old makes no call fail."""
+    prefix, old, new = Prefix(tmp_path / "prefix"), small_tree(tmp_path / "old", "old"), small_tree(tmp_path / "new", "new")
+    prefix.install(old)
+    stuck = prefix.current.resolve() / "lib/ctm/old"
+    unlink = Path.unlink
+
+    def refused(path, **how):
+        if path == stuck:
+            raise PermissionError(errno.EPERM, "Operation not permitted", str(path))
+        unlink(path, **how)
+    with monkeypatch.context() as patched:
+        patched.setattr(Path, "unlink", refused)
+        assert prefix.install(new) == [f"{stuck}: operation not permitted"]
+        assert says(prefix.folder) == "new"
+    prefix.uninstall()
+    assert says(prefix.folder) is None
+
+
 def test_a_folder_of_commands_that_is_a_link_gets_commands_that_run(tmp_path):
     """As ~/.local/bin where it leads to ~/bin, from which other paths lead to the tree than from the link."""
     (tmp_path / "home/bin").mkdir(parents=True)
@@ -226,12 +412,16 @@ def small_tree(folder, says):
     return folder
 
 
+def changes_files(event, words):
+    return event in CHANGES or event == "open" and isinstance(words[1], str) and words[1][0] in "wa"
+
+
 def broken_off(changes, does):
     """Whether what a process of its own does was ended, as by the system, before its change of this number."""
     child = os.fork()
     if child == 0:
         left = itertools.count(changes, -1)
-        sys.addaudithook(lambda event, _: os._exit(KILLED) if event in CHANGES and next(left) == 0 else None)
+        sys.addaudithook(lambda event, words: os._exit(KILLED) if changes_files(event, words) and next(left) == 0 else None)
         does()
         os._exit(0)
     return os.waitstatus_to_exitcode(os.waitpid(child, 0)[1]) == KILLED

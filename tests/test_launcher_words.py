@@ -6,7 +6,7 @@ import subprocess
 import sys
 
 import pytest
-from conftest import TOP, hold
+from conftest import BYTES, TOP, hold, limit
 from messages import TOO_LARGE
 from worked import CORRIDOR
 
@@ -141,9 +141,10 @@ TRIED = [words for words in [*words_at_the_ends(), *OTHER_WORDS, *REFUSED] if no
 
 
 @pytest.mark.parametrize("words", TRIED, ids=" ".join)
-def test_words_are_refused_where_the_program_refuses_them(words, run, without_rt):
+def test_words_are_refused_where_the_program_refuses_them(words, program, without_rt):
     """The program refuses words at once, so one that still runs has taken them."""
-    status, _, _ = run(words, seconds=20, input=CORRIDOR, stdout=subprocess.DEVNULL)
+    status = subprocess.run([program, *words], input=CORRIDOR, stdout=subprocess.DEVNULL, stderr=subprocess.DEVNULL,
+                            preexec_fn=lambda: limit(2, BYTES)).returncode
     assert without_rt.call(*words)[0] == (2 if status == 2 else 125)
 
 

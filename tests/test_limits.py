@@ -94,7 +94,7 @@ def each(side):
     """The cases of the values of one side of each limit, which have the number of their format in their names."""
     for fields, field, *sides, others in TRIED:
         for value in sides[side]:
-            yield pytest.param(fields, field, value, others, id=f"{fields[4]}: {field} {value}")
+            yield pytest.param(fields, field, value, others, id=f"{fields[4]}: {value} as {field}")
 
 
 @pytest.mark.parametrize("fields, field, value, others", each(0))

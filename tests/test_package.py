@@ -4,6 +4,7 @@ HOME. The other program is the one that CTM_WAIT_PROGRAM names, or the one that 
 
 import ast
 import hashlib
+import json
 import os
 import re
 import resource
@@ -11,11 +12,12 @@ import shutil
 import subprocess
 import sys
 import tomllib
+import zipfile
 from dataclasses import dataclass
 from pathlib import Path
 
 import pytest
-from conftest import TOP, hold
+from conftest import BYTES, TOP, hold
 from worked import CORRIDOR, REPORT
 
 sys.path[:0] = [str(TOP / "launcher"), str(TOP / "packaging")]
@@ -80,9 +82,10 @@ def unpacked(packages, tmp_path_factory):
 
 
 def test_two_calls_make_the_same_bytes(packages, programs, tmp_path):
-    again = made_in(tmp_path, programs)
-    assert {kind: path.name for kind, path in again.items()} == {kind: path.name for kind, path in packages.items()}
-    assert [kind for kind in KINDS if packages[kind].read_bytes() != again[kind].read_bytes()] == []
+    folders = [next(iter(them.values())).parent for them in (packages, made_in(tmp_path, programs))]
+    made = [{path.name: path.read_bytes() for path in folder.iterdir()} for folder in folders]
+    assert made[0].keys() == made[1].keys() and len(made[0]) == len(KINDS) + 2
+    assert [name for name in made[0] if made[0][name] != made[1][name]] == []
 
 
 def sum_of_sources():
@@ -108,6 +111,15 @@ def test_a_package_says_what_it_is_built_of(kind, unpacked, programs):
     line = f"git checkout {commit} && tools/package"
     assert told["reproduce"] in (f"{line}, where that builds these programs, which were handed to it", "no commit has these files")
     assert unpacked[kind].call("ctm", "--version") == (0, f"{lines[0]}\n".encode(), b"")
+
+
+def test_the_programs_are_hardened_as_far_as_the_toolchain_can(programs):
+    """Position-independent, bound as they start, with what the loader fills in write-protected, and no stack to be executed."""
+    for program in programs:
+        told = subprocess.run(["readelf", "-hldW", program], stdout=subprocess.PIPE, check=True, text=True).stdout
+        assert re.search(r"Type: +DYN", told) and re.search(r"FLAGS\) +BIND_NOW", told) and re.search(r"Flags: NOW PIE", told)
+        assert re.search(r"^ +GNU_RELRO ", told, re.MULTILINE)
+        assert re.search(r"^ +GNU_STACK .* RW +", told, re.MULTILINE), "no E, by which it could be executed"
 
 
 @pytest.mark.parametrize("kind", KINDS)
@@ -229,7 +241,7 @@ def tracked(*patterns):
 def test_all_documents_and_examples_are_in_the_packages(kind, unpacked):
     """But for what checks the examples in the repository."""
     documents = unpacked[kind].prefix / "share/doc/ctm"
-    wanted = {*tracked("README.md", "CHANGELOG.md", "docs/*.md", "docs/pictures", "docs/inside/pictures", "examples")} - {"examples/check"}
+    wanted = {*tracked("README.md", "CHANGELOG.md", "SECURITY.md", "docs/*.md", "docs/pictures", "docs/inside/pictures", "examples")} - {"examples/check"}
     if kind == "deb":
         wanted |= {*tracked("tools/README.md", "tools/docs")}
     else:
@@ -241,10 +253,11 @@ def test_all_documents_and_examples_are_in_the_packages(kind, unpacked):
 
 
 def test_debian_s_package_has_both_books_for_a_browser(unpacked):
-    """A page for each document, whose links lead to files beside it, and an index that Debian's doc-base names."""
+    """A page for each document, for each mode's part of the theorem and for the functions of Python, whose links lead to files
+    beside it, and an index that Debian's doc-base names."""
     share = unpacked["deb"].prefix / "share"
     site = (share / "doc/ctm/html").resolve()
-    documents = tracked("*.md")
+    documents = [*tracked("*.md"), "tools/docs/functions.md", *(f"docs/inside/theorem/{mode}.md" for mode in TABLE.modes)]
     assert {str(path.relative_to(site)) for path in site.rglob("*.html")} == {
         re.sub(r"(README)?\.md$", lambda end: "index.html" if end[1] else ".html", path) for path in documents}
     for page in site.rglob("*.html"):
@@ -268,7 +281,7 @@ def test_all_files_of_the_tools_are_in_the_packages(kind, folder, unpacked):
 
 # What of the repository the documents lead to and packages haven't.
 OF_THE_REPOSITORY = ("crates/", "bench/", "tools/tests/", "tools/setup", "tools/check", "tools/pictures", "tools/find-python",
-                     "CONTRIBUTING.md")
+                     "CONTRIBUTING.md", "launcher/")
 
 
 @pytest.mark.parametrize("kind", ["deb", "tarball"])
@@ -295,9 +308,9 @@ def test_each_package_has_its_licenses(unpacked):
 
 
 # What the tools import of others, and can't do without.
-NEEDED = {"click", "matplotlib", "networkx", "numpy", "pandas", "tabulate"}
-# What a command or an option of theirs takes, and they tell where it is missing. sumolib they do without.
-TAKEN = {"distributed", "holidays", "pyproj", "scipy", "sumolib"}
+NEEDED = {"click", "matplotlib", "networkx", "numpy", "pandas", "tabulate", "tomlkit"}
+# What a command or an option of theirs takes, and they tell where it is missing.
+TAKEN = {"distributed", "holidays", "openpyxl", "pyarrow", "pyproj", "scipy"}
 
 
 def test_the_tools_import_no_other_packages_than_are_named():
@@ -307,9 +320,14 @@ def test_the_tools_import_no_other_packages_than_are_named():
         {node.module for node in nodes if isinstance(node, ast.ImportFrom) and not node.level}
     assert {name.partition(".")[0] for name in names} - sys.stdlib_module_names == NEEDED | TAKEN
     told = tomllib.loads((TOP / "tools/pyproject.toml").read_text())["project"]
-    assert {*told["dependencies"]} == NEEDED
-    extras = {name for extra, names in told["optional-dependencies"].items() if extra != "test" for name in names}
-    assert extras == TAKEN - {"sumolib"}
+    assert {*map(name_of, told["dependencies"])} == NEEDED
+    extras = {name_of(line) for extra, lines in told["optional-dependencies"].items() if extra != "test" for line in lines}
+    assert extras == TAKEN
+
+
+def name_of(line):
+    """The name in a requirement, which has the versions from which and up to which it is taken."""
+    return re.fullmatch(r"([a-z]+)>=[\d.]+,<[\d.]+", line)[1]
 
 
 def test_the_package_for_debian_names_what_it_needs_as_debian_does(packages):
@@ -317,17 +335,117 @@ def test_the_package_for_debian_names_what_it_needs_as_debian_does(packages):
     told = subprocess.run(["dpkg-deb", "-f", packages["deb"]], stdout=subprocess.PIPE, text=True, check=True).stdout
     fields = dict(line.split(": ", 1) for line in told.splitlines() if re.match(r"[A-Z][\w-]*: ", line))
     assert fields["Package"] == "ctm" and fields["Version"] == TABLE.version and fields["Architecture"] == "amd64"
-    names = {field: fields[field].split(", ") for field in ("Depends", "Recommends", "Suggests")}
-    least = re.fullmatch(r"libc6 \(>= ([\d.]+)\)", names["Depends"][0])[1]
+    bounds = {field: [re.fullmatch(r"(\S+) \((>=|<<) ([\w.:~]+)\)", it).groups() for it in fields[field].split(", ")]
+              for field in ("Depends", "Recommends", "Suggests")}
+    least = next(version for name, sign, version in bounds["Depends"] if name == "libc6" and sign == ">=")
     assert f"the GNU C library alone, {least} or newer" in (TOP / "docs/INSTALL.md").read_text()
-    assert names["Depends"][1] == "python3 (>= 3.11)"
-    assert {*names["Depends"][2:]} == {f"python3-{name}" for name in NEEDED}
-    assert {*names["Recommends"]} == {"python3-scipy", "node-d3"}
-    assert {*names["Suggests"]} == {"python3-distributed", "python3-pyproj", "python3-holidays", "sumo", "osmium-tool"}
-    everything = [*names["Depends"][2:], *names["Recommends"], *names["Suggests"]]
+    names = {field: {name for name, _, _ in them} for field, them in bounds.items()}
+    of_trials = {"libgcc-s1"} if BYTES is None else set()  # what checks at run time need
+    assert names["Depends"] == {"libc6", "python3", *(f"python3-{name}" for name in NEEDED), *of_trials}
+    assert names["Recommends"] == {"python3-scipy", "python3-openpyxl", "node-d3"}
+    assert names["Suggests"] == {"python3-distributed", "python3-pyproj", "python3-holidays", "sumo", "osmium-tool"}
+    for them in bounds.values():
+        for name in {name for name, _, _ in them if name.startswith("python3-")}:
+            assert {sign for it, sign, _ in them if it == name} == {">=", "<<"}, f"{name} has no two bounds"
+        for name, sign, version in them:
+            own = subprocess.run(["dpkg-query", "-W", "-f", "${Version}", name], stdout=subprocess.PIPE, check=True, text=True).stdout
+            subprocess.run(["dpkg", "--compare-versions", own, {">=": "ge", "<<": "lt"}[sign], version], check=True)
+    everything = [name for them in names.values() for name in them - {"libc6"}]
     stands = subprocess.run(["dpkg-query", "-W", "-f", "${Package}: ${db:Status-Status}\n", *everything], stdout=subprocess.PIPE,
                             text=True).stdout
     assert {*stands.splitlines()} == {f"{name}: installed" for name in everything}
+
+
+def bill_in(folder):
+    return json.loads((folder / "lib/ctm/ctm.spdx.json").read_text())
+
+
+@pytest.mark.parametrize("kind", KINDS)
+def test_a_package_has_a_bill_of_what_it_is_made_of(kind, unpacked, packages, programs):
+    """In SPDX 2.3, of which each element that is named is there, and the same beside the packages."""
+    bill = bill_in(unpacked[kind].prefix)
+    beside, = packages[kind].parent.glob("*.spdx.json")
+    assert json.loads(beside.read_text()) == bill
+    assert (bill["spdxVersion"], bill["dataLicense"], bill["SPDXID"]) == ("SPDX-2.3", "CC0-1.0", "SPDXRef-DOCUMENT")
+    elements = [it["SPDXID"] for it in (bill, *bill["packages"], *bill["files"])]
+    assert len(elements) == len({*elements}) and all(re.fullmatch(r"SPDXRef-[A-Za-z0-9.-]+", it) for it in elements)
+    ends = {it[end] for it in bill["relationships"] for end in ("spdxElementId", "relatedSpdxElement")}
+    assert ends == {*elements}
+    sums = {it["fileName"]: {sum["algorithm"]: sum["checksumValue"] for sum in it["checksums"]} for it in bill["files"]}
+    assert {name: them["SHA256"] for name, them in sums.items()} == {
+        f"./lib/ctm/{name}": hashlib.sha256(Path(path).read_bytes()).hexdigest() for name, path in zip(("ctm_program", "ctm_wait"), programs)}
+
+
+def test_the_bill_names_what_is_linked_and_what_is_needed(unpacked):
+    named = {it["name"]: it["versionInfo"] for it in bill_in(unpacked["deb"].prefix)["packages"]}
+    assert named["ctm"] == TABLE.version
+    listed = [line.partition("#")[0].partition(":") for line in (TOP / "crates.txt").read_text().splitlines()]
+    own = {head.split()[0] for head, colon, _ in listed if colon}
+    linked = {name for _, _, below in listed for name in below.split()} - own | {"std"}
+    kit = subprocess.run(["rt", "version"], stdout=subprocess.PIPE, check=True, text=True).stdout.strip()
+    assert {name for name, version in named.items() if version == kit} == linked
+    bounded = {name for name, version in named.items() if re.fullmatch(r">=[\d.]+,<[\d.]+", version)}
+    assert bounded == NEEDED | TAKEN and {*named} == {"ctm", "glibc", "python3"} | linked | bounded
+
+
+def verified(folder):
+    """The status of tools/package --verify, and what it says of a folder."""
+    ended = subprocess.run([TOP / "tools/package", "--verify", "-o", folder], capture_output=True, text=True)
+    return ended.returncode, ended.stdout, ended.stderr.replace(f"{folder}/", "")
+
+
+def test_packages_are_compared_with_their_checksums(packages, tmp_path):
+    made = tmp_path / "made"
+    shutil.copytree(packages["deb"].parent, made)
+    assert verified(made) == (0, f"{made}/SHA256SUMS: the packages and their bill are as they were made\n", "")
+    subprocess.run(["sha256sum", "-c", "--strict", "--quiet", "SHA256SUMS"], cwd=made, check=True)
+    for path in made.iterdir():
+        content = path.read_bytes()
+        if path.name != "SHA256SUMS":
+            path.write_bytes(content[:-1] + bytes([content[-1] ^ 1]))
+            assert verified(made) == (1, "", f"tools/package: {path.name} isn't what was made: its checksum differs\n")
+            path.unlink()
+            assert verified(made) == (1, "", f"tools/package: {path.name} is missing\n")
+        else:
+            path.write_bytes(content[content.index(b"\n") + 1:])
+            assert verified(made) == (1, "", "tools/package: SHA256SUMS names no .deb\n")
+            path.unlink()
+            assert verified(made) == (2, "", "tools/package: SHA256SUMS: no such file or directory\n")
+        path.write_bytes(content)
+
+
+def test_another_program_in_a_package_is_told_though_the_checksums_were_made_anew(packages, tmp_path):
+    made = tmp_path / "made"
+    shutil.copytree(packages["deb"].parent, made)
+    tarball = made / packages["tarball"].name
+    subprocess.run(["tar", "-xf", tarball, "-C", tmp_path], check=True)
+    folder, = tmp_path.glob("ctm-*")
+    (folder / "lib/ctm/ctm_program").write_text("another\n")
+    subprocess.run(["tar", "-czf", tarball, "-C", tmp_path, folder.name], check=True)
+    sums = subprocess.run(["sha256sum", *(path.name for path in made.iterdir() if path.name != "SHA256SUMS")], cwd=made,
+                          stdout=subprocess.PIPE, check=True).stdout
+    (made / "SHA256SUMS").write_bytes(sums)
+    assert verified(made) == (1, "", f"tools/package: {tarball.name}: ctm_program isn't the program of its bill\n")
+
+
+@pytest.mark.parametrize("content", [b"none", b"", b"\x1f\x8bnone", '{"files": [{"fileName": 3}]}', '{"files": 3}', "[]", "[" * 100_000],
+                         ids=["text", "empty", "gzip", "number", "no list", "list", "deep"])
+def test_what_is_no_package_is_told_though_its_checksum_fits(tmp_path, monkeypatch, content):
+    monkeypatch.syspath_prepend(TOP / "packaging")
+    from verifying import differences_inside
+    for name in ("a.whl", "a.tar.gz"):
+        if isinstance(content, bytes):
+            (tmp_path / name).write_bytes(content)
+        else:
+            with zipfile.ZipFile(tmp_path / name, "w") as file:
+                file.writestr("lib/ctm/ctm.spdx.json", content)
+        assert list(differences_inside(tmp_path / name)) == [f"{tmp_path / name}: can't be read as a package with its bill of materials"]
+
+
+def test_checksums_in_no_letters_are_told(tmp_path):
+    (tmp_path / "SHA256SUMS").write_bytes(b"\xff\xfe")
+    status, out, err = verified(tmp_path)
+    assert (status, out) == (1, "") and err.splitlines()[0] == "tools/package: SHA256SUMS names no .deb"
 
 
 def test_lintian_finds_no_error(packages):

@@ -7,11 +7,13 @@ import pytest
 from conftest import TOP
 
 
-SCRIPTS = ["ctm", "ctm-wait", "ctm-tools", "launcher/words", "launcher/waiting", "launcher/commit", "launcher/current",
+SCRIPTS = ["check", "ctm", "ctm-wait", "ctm-tools", "launcher/path", "launcher/stack", "launcher/check_proofs", "launcher/check_small_proof", "launcher/check_handles",
+           "launcher/words", "launcher/waiting", "launcher/commit", "launcher/current",
            "launcher/having", "launcher/install", "launcher/try", "launcher/installed/ctm", "launcher/installed/ctm-wait",
            "launcher/installed/ctm-tools", "packaging/debian/postinst", "packaging/debian/prerm",
            "tests/fake_rt", "tests/fake_rattle", "tests/program", "tests/launcher", "examples/check", "tools/check", "tools/find-python",
-           "tools/documents", "docs/site", "tools/package", "tools/pictures", "tools/setup", ".ci/run", "bench/installed"]
+           "tools/documents", "docs/site", "tools/package", "tools/pictures", "tools/setup", ".ci/run", "bench/installed", "bench/fuzz",
+           "tests/fuzz"]
 
 
 @pytest.mark.parametrize("script", SCRIPTS)

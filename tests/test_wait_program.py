@@ -5,7 +5,7 @@ faults and streams that fail. What it writes is what `ctm run` is to write.
 import os
 
 import pytest
-from conftest import TOP, ended, hold
+from conftest import TOP, hold
 from made_networks import made_network
 from messages import READ_FAULT, TOO_LARGE, WORDS, WRITE_FAULT, fault
 from plain_model import report as plain_report
@@ -14,16 +14,6 @@ from worked import CITY, CORRIDOR, REPORT, SPEED, TURN, TWO_ROADS, TWO_ROADS_REP
 WORKERS = pytest.mark.parametrize("workers", ["1", "4"])
 EXAMPLES = sorted(path.stem for path in (TOP / "examples").glob("*.csv"))
 IN_REGIONS = CORRIDOR.replace(b"ctm,1", b"ctm,2") + lines("region,out,0; region,a,1; region,in,2")
-BUILT = TOP / "crates/ctm_wait/out/ctm_wait"
-
-
-@pytest.fixture(scope="session")
-def wait():
-    """Runs the program whose workers wait on these words."""
-    path = os.environ.get("CTM_WAIT_PROGRAM", BUILT)
-    if not os.path.exists(path):
-        pytest.skip("ctm_wait isn't built: ./ctm-wait --path builds it")
-    return lambda words, **streams: ended([path, *words], **streams)
 
 
 @WORKERS

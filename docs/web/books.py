@@ -3,7 +3,9 @@
 from itertools import groupby
 from pathlib import Path
 
+from function_pages import PAGE as FUNCTIONS
 from gathering import contents, pages
+from theorem_pages import theorem_pages
 
 BOOKS = {"For who uses it": Path("docs/README.md"), "For who carries it on": Path("docs/inside/README.md")}
 
@@ -17,6 +19,8 @@ def navigation() -> list[dict]:
             path.parts[:2] != ("docs", "inside") or first.parent == path.parent)}
         known |= inside.keys()
         listed.append({book: [{"Contents": str(first)}, *in_parts(inside)]})
+    listed[1][next(iter(BOOKS))].append({"Functions of Python": str(FUNCTIONS)})
+    listed[-1][book].append({"The theorem": [{path.stem: str(path)} for path in theorem_pages()]})
     rest = [path for path in pages() if path not in known]
     return [*listed, {"More": [{path.stem: str(path)} for path in rest]}] if rest else listed
 

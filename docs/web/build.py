@@ -1,4 +1,4 @@
-"""docs/site [FOLDER]: the site of both books, by mkdocs, with a list of all sections for the search."""
+"""docs/site [FOLDER]: the site of both books and of the theorem, by mkdocs, with a list of all sections for the search."""
 
 import re
 import sys
@@ -9,7 +9,9 @@ import mkdocs.commands.build
 import mkdocs.config
 from books import navigation
 from built_pages import broken_links, read_site, write_index
+from function_pages import write_functions
 from gathering import TOP, gather
+from theorem_pages import write_pages
 
 
 def slug(heading: str, _: str) -> str:
@@ -21,6 +23,8 @@ def build(site: Path) -> list[str]:
     """Builds the site, and gives the links that lead nowhere."""
     with TemporaryDirectory() as work:
         gather(Path(work, "pages"))
+        write_pages(Path(work, "pages"))
+        write_functions(Path(work, "pages"))
         Path(work, "mkdocs.yml").write_text("site_name: ctm\n")
         mkdocs.commands.build.build(mkdocs.config.load_config(
             str(Path(work, "mkdocs.yml")), docs_dir=str(Path(work, "pages")), site_dir=str(site), use_directory_urls=False,

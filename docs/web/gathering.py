@@ -6,7 +6,7 @@ from collections.abc import Iterator
 from pathlib import Path
 
 TOP = Path(__file__).resolve().parents[2]
-PATTERNS = ("README.md", "CHANGELOG.md", "CONTRIBUTING.md", "docs/**/*.md", "tools/README.md", "tools/docs/*.md",
+PATTERNS = ("README.md", "CHANGELOG.md", "CONTRIBUTING.md", "SECURITY.md", "docs/**/*.md", "tools/README.md", "tools/docs/*.md",
             "examples/README.md")
 PICTURES = ("docs/pictures/*", "docs/inside/pictures/*")
 LINK = re.compile(r"\]\(([^)\s]+)\)")

@@ -7,5 +7,8 @@ try:
 except KeyboardInterrupt:  # while the packages were loaded
     print("ctm-tools: interrupted", file=sys.stderr)
     sys.exit(130)
+except ModuleNotFoundError as error:
+    print(f"ctm-tools: the Python package {error.name} is missing", file=sys.stderr)
+    sys.exit(2)
 
 main()

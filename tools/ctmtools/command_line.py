@@ -13,11 +13,13 @@ from typing import Any, NoReturn
 import click
 
 from . import __version__
-from .interrupt import INTERRUPTS, STATUS, heeded
-from .problem import Interrupted, Problem, one_line
-from .program import documents, found_program
+from .commands.ending import PROGRAM, answer, need_streams, say
+from .commands.telling import tell
+from .files.unpacking import DEFAULT, MOST, OPTION
+from .problem import Interrupted
+from .program.calls import documents, found_program, keep_folders_from_root
+from .program.interrupt import INTERRUPTS, STATUS, heeded
 
-PROGRAM = "ctm-tools"
 COMMANDS = {"build": "Make the network file of a study.", "run": "Run a study or a network, and print its page.",
             "lint": "Explain the first fault of a network file, or warn.",
             "table": "Write a report as a tidy table, CSV.",
@@ -37,9 +39,6 @@ COMMANDS = {"build": "Make the network file of a study.", "run": "Run a study or
             "diagram": "Fit flow and density to a detector's data."}
 # The modules of commands whose names aren't theirs.
 MODULES = {"export": "exporting", "import": "importing", "travel-time": "travel_time"}
-PACKAGES = {"click": "python3-click", "pandas": "python3-pandas", "numpy": "python3-numpy",
-            "matplotlib": "python3-matplotlib", "networkx": "python3-networkx", "distributed": "python3-distributed",
-            "scipy": "python3-scipy", "pyproj": "python3-pyproj", "holidays": "python3-holidays"}
 EPILOG = """\b
 Examples:
   ctm-tools run examples/bottleneck.toml
@@ -89,7 +88,7 @@ def show_version(context: click.Context, _: click.Parameter, asked: bool) -> Non
     """Tells the version of the tools, and which program they call."""
     if asked and not context.resilient_parsing:
         program = found_program()
-        click.echo(f"{PROGRAM} {__version__}, over {program.path}, {program.by}")
+        tell(f"{PROGRAM} {__version__}, over {program.path}, {program.by}")
         context.exit()
 
 
@@ -97,12 +96,17 @@ def show_version(context: click.Context, _: click.Parameter, asked: bool) -> Non
                                                             "max_content_width": 110})
 @click.option("--version", is_flag=True, expose_value=False, is_eager=True, callback=show_version,
               help="Show the version, and which program is called.")
-def tools() -> None:
+@click.option(OPTION, "most_unpacked", type=click.IntRange(1), default=DEFAULT, show_default=True, metavar="MIB",
+              help="The most that a packed file may unpack to.")
+def tools(most_unpacked: int) -> None:
     """Studies of road traffic in an engineer's own units, over the proved program ctm."""
+    MOST.set(most_unpacked)
 
 
 def main(words: Sequence[str] | None = None) -> NoReturn:
     """Runs a command on the words, and ends with status 2 and one line where they or a file have a fault."""
+    need_streams()
+    keep_folders_from_root()
     last_word = LastWord()
     with heeded(last_word):
         try:
@@ -119,26 +123,6 @@ def main(words: Sequence[str] | None = None) -> NoReturn:
     sys.exit(status if isinstance(status, int) else 0)
 
 
-def answer(error: Exception) -> NoReturn:
-    """Ends with the line that tells an error, or raises one that no user made."""
-    if isinstance(error, click.exceptions.Abort):
-        fail("interrupted", STATUS)
-    if isinstance(error, click.ClickException):
-        context = getattr(error, "ctx", None)
-        where = context.command_path if context else PROGRAM
-        fail(f"{one_line(error.format_message())} ({where} --help tells more)")
-    if isinstance(error, Problem):
-        fail(one_line(error))
-    if isinstance(error, BrokenPipeError):
-        sys.stderr.close()
-        sys.exit(1)
-    if isinstance(error, ModuleNotFoundError):
-        package = PACKAGES.get((error.name or "").split(".")[0])
-        if package is not None:
-            fail(f"the Python package {error.name} is missing; Debian has it as {package}: apt install {package}")
-    raise error
-
-
 class LastWord:
     """The line of a command that was interrupted, which is told once."""
 
@@ -151,8 +135,7 @@ class LastWord:
         with self.telling:
             if not self.told:
                 self.told = True
-                begin = "\r\x1b[K\x1b[?25h" if sys.stderr.isatty() else ""  # a bar hides the cursor
-                print(f"{begin}{PROGRAM}: {one_line(line)}", file=sys.stderr, flush=True)
+                say(line, "\r\x1b[K\x1b[?25h" if sys.stderr.isatty() else "")  # a bar hides the cursor
 
 
 def stop(last_word: LastWord, line: str = "interrupted") -> NoReturn:
@@ -165,8 +148,3 @@ def stop(last_word: LastWord, line: str = "interrupted") -> NoReturn:
         os._exit(STATUS)
     sys.exit(STATUS)
 
-
-def fail(line: str, status: int = 2) -> NoReturn:
-    """Ends with a line on standard error and a status."""
-    print(f"{PROGRAM}: {line}", file=sys.stderr)
-    sys.exit(status)

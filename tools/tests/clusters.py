@@ -5,7 +5,7 @@ import signal
 import time
 from contextlib import contextmanager
 
-from ctmtools.sweeps import workers
+from ctmtools.many_runs import workers
 
 PATIENCE = 300  # seconds; a busy machine may take long over what is quick
 

@@ -7,7 +7,8 @@ import pytest
 
 from ctmtools import read_report
 from ctmtools.command_line import main
-from ctmtools.program import ask, program_path, takes
+from ctmtools.program.calls import ask, program_path, takes
+from ctmtools.study import folder
 
 from .examples import save_report
 
@@ -32,6 +33,12 @@ def speed_program(program):
     if ask(("check",), b"ctm,3\nsteps,1\nexit,x,0\n").status:
         pytest.skip("the built program takes no format 3")
     return program
+
+
+@pytest.fixture(autouse=True)
+def allows_no_folders(monkeypatch):
+    """What one test allows studies to read is no other's."""
+    monkeypatch.setattr(folder, "_allowed", {})
 
 
 @pytest.fixture

@@ -6,13 +6,14 @@ from types import SimpleNamespace
 import pytest
 
 from ctmtools import Problem, build, read_study
-from ctmtools.amounts import PARTS
+from ctmtools.texts.amounts import PARTS
 from ctmtools.moments.actuated_signals import ActuatedSignals
-from ctmtools.program import ask
-from ctmtools.running import opened
+from ctmtools.program.calls import ask
+from ctmtools.runs.running import opened
 from ctmtools.study.plan import Actuation
 
 from .examples import EXAMPLES
+from .validation_tables import rows_under
 
 STUDY = """step = 1
 start = "07:00"
@@ -68,6 +69,8 @@ def test_the_greens_settle_at_those_of_paper(tmp_path, recording_program, a, b, 
     found = settled_greens(opened(write(tmp_path, a, b)))
     # A green is rounded up to whole steps of 1 s.
     assert found[:2] == pytest.approx(greens, abs=1.2) and found[2] == pytest.approx(cycle, abs=2.4)
+    row, = (row for row in rows_under("Come, vehicles/h | Greens on paper, s | Cycle | By the program | Cycle") if row[0].startswith(f"{a} and {b}"))
+    assert row[3:] == [f"{found[0]:.0f} and {found[1]:.0f}", f"{found[2]:.0f}"]
 
 
 THIRD = """[roads.c]
@@ -106,8 +109,8 @@ def test_greens_that_need_less_last_the_least(tmp_path, recording_program):
 def test_all_stop_lines_are_red_until_the_first_green_begins(tmp_path):
     path = write(tmp_path)
     path.write_text(path.read_text().replace("cycle = 60", "cycle = 76").replace('{ from = ["a"]', '{ from = ["a"], start = 10'))
-    study = read_study(path)
-    assert ActuatedSignals(build(study), study, None).reds == ["limit,a30,0,10,0", "limit,b30,0,10,0"]
+    study = read_study(path).scenario
+    assert [one.text for one in ActuatedSignals(build(study), study, None).reds] == ["limit,a30,0,10,0", "limit,b30,0,10,0"]
 
 
 def test_a_bar_is_told_how_far_greens_have_come_and_there_is_none_without_runs(tmp_path, recording_program):
@@ -156,7 +159,7 @@ def test_what_a_study_cant_mean_is_refused(tmp_path, changes, why):
 
 
 def test_a_gap_may_be_as_long_as_the_most(tmp_path):
-    (junction,) = read_study(write(tmp_path, follow="{ least = 40, most = 40, gap = 40 }")).actuated
+    (junction,) = read_study(write(tmp_path, follow="{ least = 40, most = 40, gap = 40 }")).scenario.actuated
     assert {phase.actuation for phase in junction.phases} == {Actuation(40, 40, 40)}
 
 
@@ -195,7 +198,7 @@ def test_signals_whose_roads_merge_take_turns_as_phases_do(tmp_path, recording_p
 def test_signals_that_are_green_together_before_the_others_are_one_phase(tmp_path):
     path = signals(tmp_path)
     path.write_text(path.read_text().replace("first_green = 30", "first_green = 0"))
-    (junction,) = read_study(path).actuated
+    (junction,) = read_study(path).scenario.actuated
     assert [phase.lines for phase in junction.phases] == [[("a", None), ("b", None)]] and junction.phases[0].pause == 34
 
 
@@ -278,5 +281,5 @@ def test_when_a_queue_is_gone(waiting, come, steps):
     # One passes in two steps. Where 3 came in 10 steps, 0.3 of the 4 who stand there drive, and 0.3 come in each step that 0.5 leave.
     moment = SimpleNamespace(rows=[SimpleNamespace(n=waiting * PARTS, come=come * PARTS)])
     own = SimpleNamespace(moment=moment, places={"a": 0}, seen={"a": (0, 0)},
-                          network=SimpleNamespace(cells=SimpleNamespace(Q={"a": 0.5}), steps=100, paces={}))
+                          network=SimpleNamespace(capacities={"a": 0.5}, steps=100, paces={}))
     assert ActuatedSignals._clearing(own, ["a"], 10) == pytest.approx(steps)

@@ -8,13 +8,12 @@ import pytest
 
 from ctmtools import read_report
 from ctmtools.assignment.assigning import Assignment, recorded_every
-from ctmtools.assignment.choices import Choice
-from ctmtools.assignment.departures import Departures
+from ctmtools.assignment.choices import Choice, Departures
 from ctmtools.assignment.forks import Fork, Rounded
 from ctmtools.assignment.times import gap_of
 from ctmtools.assignment.messages import not_settled
 from ctmtools.assignment.ways_file import read_ways
-from ctmtools.study.reading import read_study, read_values
+from ctmtools.study.reading import read_scenario, read_values
 
 from .grids import grid_study
 from .trips import TWO_PAIRS, TWO_WAYS, eight_ways
@@ -25,7 +24,7 @@ def assigned(folder, text, gap=0.01, rounds=50):
     """An assignment of a study of this text, and its rounds."""
     path = Path(folder) / "study.toml"
     path.write_text(text)
-    made = Assignment(read_study(path))
+    made = Assignment(read_scenario(path))
     made.start()
     return made, list(made.rounds(gap, rounds))
 
@@ -48,7 +47,8 @@ def test_all_take_the_short_way_until_its_queue_costs_as_much(two_ways):
     taken = choice.parts[short] * vehicles
     # 3,000 vehicles/h come, 2,000 pass: 5 min of queue after 10 min, two intervals of 5 min; then 2,000 of 3,000 go on so.
     assert taken[:2] == pytest.approx([250, 250]) and taken[2] < 200
-    assert figures_of("two ways") == [["07:10"], ["07:10"]]
+    begins = 5 * next(place for place, vehicles in enumerate(taken) if vehicles < 249)
+    assert figures_of("two ways") == [["07:10"], [f"07:{begins:02}"]]
     assert taken[2:].sum() == pytest.approx(2000 * 50 / 60, rel=0.03)
     assert f"Then {taken[2:].sum():,.0f} of 2,500 drivers do in place of 1,667" in PAGE
     times = made.times[0][:, 3:9] * 10 / 60
@@ -192,7 +192,7 @@ def near_the_best(made):
 @pytest.mark.parametrize("seed", range(1, 21))
 def test_a_made_grid_comes_to_rest_within_50_rounds(seed, tmp_path, recording_program):
     (tmp_path / "grid.toml").write_text(grid_study(seed, demand=(100, 300)))
-    made = Assignment(read_study(tmp_path / "grid.toml"))
+    made = Assignment(read_scenario(tmp_path / "grid.toml"))
     made.start()
     assert any(done.settled(0.02) and near_the_best(made) for done in made.rounds(1e-9, 50))
     assert made.report.total.left == pytest.approx(made.departures.vehicles.sum(), abs=1)

@@ -35,7 +35,7 @@ def test_a_pair_of_hardly_anybody_stands_beside_others(tmp_path, recording_progr
     few = TWO_PAIRS.replace('demand = [["07:00", "07:10", 300], ["07:10", "07:20", 900]]', "demand = 0.000001")
     (tmp_path / "s.toml").write_text(few)
     assign(tmp_path / "s.toml", tmp_path / "open.toml")
-    frame = assign(tmp_path / "s.toml", earlier=tmp_path / "open.toml", informed=0.5)
+    frame = assign(tmp_path / "s.toml", earlier=tmp_path / "open.toml", informed=0.5).rows
     assert frame.vehicles.sum() == pytest.approx(200, abs=1e-4)
 
 
@@ -152,7 +152,7 @@ def test_a_time_after_which_nobody_sets_out_is_refused(opened, tmp_path, after):
 def test_the_study_says_who_is_informed_where_the_call_does_not(opened, tmp_path, informed, roads):
     text = TWO_WAYS.replace("3000]]", "1800]]").replace("ways = 8", f"ways = 8\ninformed = {informed}")
     (tmp_path / "s.toml").write_text(text + CLOSED)
-    frame = assign(tmp_path / "s.toml", earlier=opened, iterations=3)
+    frame = assign(tmp_path / "s.toml", earlier=opened, iterations=3).rows
     assert {own[1] for own in frame.roads} == roads
 
 
@@ -184,13 +184,13 @@ def test_who_has_a_way_keeps_it_beside_given_routes(opened, tmp_path):
     route = '[[routes]]\nfrom = "home"\nto = "work"\nroads = ["long"]\n'
     for share, kept, mean in (("", "short", 10), ("share = 1\n", "long", 15)):  # what a study says of its drivers holds
         (tmp_path / "s.toml").write_text(TWO_WAYS.replace("3000]]", "1800]]") + route + share)
-        frame = assign(tmp_path / "s.toml", earlier=opened, informed=0)
-        assert {roads[1] for roads in frame.roads} == {kept} and frame.attrs["mean_minutes"] == pytest.approx(mean, abs=0.01)
+        found = assign(tmp_path / "s.toml", earlier=opened, informed=0)
+        assert {roads[1] for roads in found.rows.roads} == {kept} and found.figures["mean_minutes"] == pytest.approx(mean, abs=0.01)
 
 
 def test_more_drivers_than_before_part_as_they_did(opened, tmp_path):
     (tmp_path / "s.toml").write_text(TWO_WAYS.replace("3000]]", "1900]]"))
-    frame = assign(tmp_path / "s.toml", tmp_path / "more.toml", earlier=opened, informed=0)
+    frame = assign(tmp_path / "s.toml", tmp_path / "more.toml", earlier=opened, informed=0).rows
     assert frame.vehicles.sum() == pytest.approx(1900)
     assert {row.roads for row in read_ways(tmp_path / "more.ways.csv")} == {("a", "short", "b")}
 
@@ -238,11 +238,11 @@ def test_a_queue_that_is_left_goes_on_as_at_the_end_of_a_run_of_few_records():
 
 def test_times_on_the_ways_are_in_hours_of_all_and_minutes_of_each():
     own = SimpleNamespace(departures=SimpleNamespace(vehicles=numpy.array([[15.0, 5.0]])),
-                          report=SimpleNamespace(units=Units(step=5), total=SimpleNamespace(left=18, inside=2)))
+                          report=SimpleNamespace(units=Units(step=5), sums=SimpleNamespace(left=18, inside=2)))
     found = measures(own, Round(3, Gap(0, 0, 720_000), 0, 7, 0))
     # 720,000 vehicle-steps of 5 s are 1,000 vehicle-hours, of 20 vehicles.
     assert (found["travel_vehicle_hours"], found["mean_minutes"], found["delay_vehicle_hours"]) == pytest.approx((1000, 3000, 7), rel=1e-6)
-    assert (found["rounds"], found["served_vehicles"], found["inside_vehicles"]) == (3, 18, 2)
+    assert (found["rounds"], found["left_vehicles"], found["inside_vehicles"]) == (3, 18, 2)
 
 
 @pytest.mark.parametrize("gap, moved, limits, told", [
@@ -251,7 +251,7 @@ def test_times_on_the_ways_are_in_hours_of_all_and_minutes_of_each():
     (0, 0, 0.2, "what passes of those who give way still moves by 20.0%;")])
 def test_what_has_not_settled_is_told_with_what_it_is_above(gap, moved, limits, told):
     own = SimpleNamespace(choices=[], departures=SimpleNamespace(by_interval=[]), times=[], crowded=set(),
-                          report=SimpleNamespace(total=SimpleNamespace(inside=0)))
+                          report=SimpleNamespace(sums=SimpleNamespace(inside=0)))
     line, = not_settled(own, [Round(2, Gap(100 + 100 * gap, 100, 500), moved, 0, 0, limits)], 0.01)
     assert line.startswith(f"warning: after 2 rounds {told} it still falls") and Round(2, Gap(100, 100, 500), 0, 0, 0).settled(0.01)
 

@@ -7,19 +7,18 @@ import pytest
 
 from ctmtools import assign
 from ctmtools.assignment.assigning import Assignment, Round
-from ctmtools.assignment.choices import Choice
-from ctmtools.assignment.departures import Departures, departures_of
+from ctmtools.assignment.choices import Choice, Departures, departures_of
 from ctmtools.assignment.diversion import divert
 from ctmtools.assignment.forks import Fork, Rounded, pairs_of, parts_of
-from ctmtools.assignment.loading import moved, share_bounds
+from ctmtools.assignment.courses import moved, share_bounds
 from ctmtools.assignment.passing import Passing, _finer
 from ctmtools.assignment.searching import Search
-from ctmtools.assignment.shared_network import SharedNetwork
-from ctmtools.assignment.swapping import Pace, swap
-from ctmtools.assignment.times import Gap, times_of
+from ctmtools.assignment.assigned_study import SharedNetwork
+from ctmtools.assignment.times import Gap, Pace, swap, times_of
 from ctmtools.assignment.ways_file import WayRow
 from ctmtools.assignment.writing import Places, written
-from ctmtools.study.reading import read_study, read_values
+from ctmtools.network_file.kinds import record_of
+from ctmtools.study.reading import read_scenario, read_values
 
 from .grids import grid_study
 from .test_assign import assigned
@@ -33,7 +32,7 @@ CLOCKS = [f"07:{minute:02d}:00" for minute in range(0, 60, 5)]
 def begun(folder, text):
     """An assignment of a study of this text before its first round."""
     (folder / "s.toml").write_text(text)
-    made = Assignment(read_study(folder / "s.toml"))
+    made = Assignment(read_scenario(folder / "s.toml"))
     made.start()
     return made
 
@@ -163,7 +162,7 @@ def test_three_ways_out_are_parted_one_by_one():
 def test_a_network_has_the_shares_of_the_first_span_and_turns_where_others_hold():
     text = "ctm,1\nsteps,90\ndiverge,m,a,b,7,9\n"
     parts = numpy.array([[500_000, 250_000, 250_000], [500_000, 750_000, 750_000]])
-    made = SharedNetwork(SimpleNamespace(build=lambda: SimpleNamespace(text=text)))
+    made = SharedNetwork(SimpleNamespace(network=SimpleNamespace(records=[record_of(line) for line in text.splitlines()[1:]])))
     content = made.content([Fork("diverges[1]", 0, (0, 1), (0, 1), ("m",))], [parts], numpy.array([0, 30, 60, 90]))
     assert content.decode() == "ctm,2\nsteps,90\ndiverge,m,a,b,1,1\nturn,m,30,90,1,3\n"
 
@@ -244,8 +243,8 @@ def test_the_study_that_is_written_runs_as_the_last_round_did(text, tmp_path, re
 def test_who_is_not_informed_takes_the_shortest_way_at_free_flow(by, informed, delay, tmp_path, recording_program):
     told = f"ways = 8\ninformed = {informed}" if by == "the study" else "ways = 8"
     (tmp_path / "s.toml").write_text(TWO_WAYS.replace("ways = 8", told))
-    frame = assign(tmp_path / "s.toml", informed=informed if by == "the call" else None, gap=1e-5)
-    assert frame.attrs["delay_vehicle_hours"] == pytest.approx(delay, rel=0.02)
+    found = assign(tmp_path / "s.toml", informed=informed if by == "the call" else None, gap=1e-5)
+    assert found.figures["delay_vehicle_hours"] == pytest.approx(delay, rel=0.02)
 
 
 def test_a_queue_that_is_left_at_the_end_goes_on_as_then(tmp_path, recording_program):

@@ -6,7 +6,7 @@ import pytest
 
 from ctmtools import read_study
 from ctmtools.assignment.assigning import Assignment
-from ctmtools.program import ask
+from ctmtools.program.calls import ask
 
 # From the village a side street leads onto a road, where it gives way to 600 vehicles/h, and so does a bypass that takes 60 s more.
 STUDY = """step = 5
@@ -76,7 +76,7 @@ def test_drivers_leave_a_side_street_that_passes_less_than_they_are(tmp_path, to
 
 def test_a_round_is_settled_once_what_passes_is(tmp_path, recording_program):
     (tmp_path / "study.toml").write_text(STUDY)
-    assignment = Assignment(read_study(tmp_path / "study.toml"))
+    assignment = Assignment(read_study(tmp_path / "study.toml").scenario)
     assignment.start()
     first, second = assignment.rounds(1.0, 2)  # with a gap of 1 the first round would do
     assert first.limits > 0.5 and not first.settled(1.0) and second.limits < first.limits

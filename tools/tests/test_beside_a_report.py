@@ -1,12 +1,14 @@
 """What stands beside a report or is named for it: units and network, which of them is taken, and what doesn't fit."""
 
+import os
+
 import plain_model
 import pytest
 
 from ctmtools import Problem, read_report
-from ctmtools.files import write_units
+from ctmtools.runs.outputs import write_units
 from ctmtools.report.by_road import network_states
-from ctmtools.units import Units, units_path
+from ctmtools.units import OfNetwork, Units, units_path
 
 from .corridor import corridor
 from .plain_reports import at_a_light
@@ -52,7 +54,7 @@ def test_the_network_that_units_name_comes_before_that_of_the_reports_name(made)
     (made / "here" / "a.csv").write_text(limited)
     assert read_report(report).network.content == limited.encode()
     named.write_text(text)
-    write_units(units_path(report), Units(step=10, network="n.csv"))
+    write_units(units_path(report), Units(step=10, network=OfNetwork("n.csv")))
     assert read_report(report).network.content == text.encode()
     named.write_text("ctm,1\nsteps,9\nexit,x,1\n")
     for network in (None, named):
@@ -64,6 +66,19 @@ def test_the_network_that_units_name_comes_before_that_of_the_reports_name(made)
     assert read_report(report).network is None
     with pytest.raises(Problem, match="none.units.json: no such file or directory"):
         read_report(report, units=made / "none.units.json")
+
+
+@pytest.mark.parametrize("content", [b"root:*:20228:0:::\n", b"", None])
+def test_of_a_file_that_units_name_and_that_is_no_network_nothing_is_quoted(made, content):
+    report, named = made / "here" / "a.report", made / "there" / "shadow"
+    if content is None:
+        os.mkfifo(named)
+    else:
+        named.write_bytes(content)
+    write_units(units_path(report), Units(step=10, network=OfNetwork("../there/shadow")))
+    with pytest.raises(Problem, match="names the network .*shadow, which is none; name the network's file with --network$") as refused:
+        read_report(report)
+    assert "20228" not in str(refused.value)
 
 
 def test_a_step_without_cells_gives_no_kilometres():

@@ -26,13 +26,13 @@ def test_a_road_at_free_flow(tmp_path):
     assert frame.road.tolist() == ["m", "gate g"] * 4
     row = frame[frame.road == "m"].iloc[1]
     # 4 vehicles in each step and cell: 16 vehicles/km, 8 in each of both lanes, which are 12.9 a mile.
-    assert (row.step, row.vehicles, row.flow, row.density, row.level) == (90, 360, 1440, 8, "B")
+    assert (row.step, row.left, row.flow, row.density, row.level) == (90, 360, 1440, 8, "B")
     assert (row.speed, row.delay, row.delay_each, row.queue) == (pytest.approx(90), 0, 0, 0)
     first, last = frame[frame.road == "m"].iloc[0], frame[frame.road == "m"].iloc[3]
     # From the road's end 4 go out in each step from the fifth one after 06:00:10 on, 85 of 90.
-    assert first.vehicles == 4 * 85 and last.vehicles == 0 and numpy.isnan(last.delay_each) and last.level == "A"
+    assert first.left == 4 * 85 and last.left == 0 and numpy.isnan(last.delay_each) and last.level == "A"
     gate = frame[frame.road == "gate g"].iloc[1]
-    assert gate.vehicles == 360 and numpy.isnan(gate.density) and gate.level == "" and gate.queue == 0
+    assert gate.left == 360 and numpy.isnan(gate.density) and gate.level == "" and gate.queue == 0
 
 
 def test_the_delay_of_a_lane_drop_and_what_it_costs(report):
@@ -51,7 +51,7 @@ def test_a_ramp_is_told_with_what_waits_before_it(report):
     # Of the ramp's 2,080 vehicles those who come from 06:30 on wait for 180 vehicle-hours, on the ramp and before it.
     ramp = frame.loc["ramp to a2 (a km 0.50)"]
     came = 360 * 0.5 + 1800 * 0.5 + 360 * (2 + 53 / 60 + 20 / 3600)
-    assert (ramp.vehicles, ramp.delay, ramp.cost) == pytest.approx((came, 180, 1800), rel=1e-3)
+    assert (ramp.left, ramp.delay, ramp.cost) == pytest.approx((came, 180, 1800), rel=1e-3)
     assert ramp.delay_each == pytest.approx(180 * 3600 / came, rel=1e-3) and 0 < ramp.queue <= 0.5
     assert len(frame) == 1  # the motorway parts before the ramp joins it
 
@@ -69,7 +69,7 @@ def test_the_states_of_a_network(tmp_path):
 
 def test_without_units_there_are_gates_alone():
     frame = by_road(at_a_light(0, 3, 7))
-    assert frame.road.tolist() == ["gate g"] and frame.vehicles.tolist() == [3] and frame.level.tolist() == [""]
+    assert frame.road.tolist() == ["gate g"] and frame.left.tolist() == [3] and frame.level.tolist() == [""]
     with pytest.raises(Problem, match="has no cost"):
         by_road(at_a_light(0), value_of_time=5)
     # Of 40 steps a vehicle stands in the cell for one, one for six and one for two.
@@ -97,11 +97,11 @@ def test_the_commands(tool, reports, tmp_path):
     path = reports("interchange")
     status, out, err = tool("table", path, "--by", "road", "--interval", "30 min", "--value-of-time", "20", "-o", "roads.csv")
     rows = list(csv.DictReader((tmp_path / "roads.csv").open()))
-    assert status == 0 and list(rows[0]) == ["time", "step", "road", "vehicles", "flow", "density", "level", "speed", "delay",
+    assert status == 0 and list(rows[0]) == ["time", "step", "road", "left", "flow", "density", "level", "speed", "delay",
                                              "delay_each", "queue", "cost"]
     assert rows[0]["time"].endswith(":00:00") and out.startswith(f"roads.csv: {len(rows)} rows")
     assert "go with --by road and --by ramp" in tool("table", path, "--interval", "30 min")[2]
-    assert tool("table", path, "--by", "ramp")[1].startswith("time,step,ramp,vehicles,")
+    assert tool("table", path, "--by", "ramp")[1].startswith("time,step,ramp,left,")
     assert "--cell with --by cell" in tool("table", path, "--by", "road", "--cell", "m1")[2]
     for words in (["time-space", path, "--of", "speed"], ["time-space", path, "--of", "flow"], ["mfd", path, "--interval", "10 min"]):
         assert tool("plot", *words, "-o", "p.png")[0] == 0 and (tmp_path / "p.png").stat().st_size > 10_000

@@ -9,10 +9,10 @@ import pytest
 from ctmtools import Problem, run
 from ctmtools.calibration import fitting
 from ctmtools.calibration.diagram import fit, read_states
-from ctmtools.calibration.fitting import Calibration, by_place, calibrate, distance, geh, range_of
+from ctmtools.calibration.fitting import Calibration, by_place, distance, fitted, geh, range_of
 from ctmtools.calibration.nearest import Reach, around, descend, starts, width_of
 from ctmtools.calibration.observed import modelled, read_observed
-from ctmtools.sweeps import workers
+from ctmtools.many_runs import workers
 
 from .clusters import PATIENCE
 from .corridor import HEAD
@@ -30,6 +30,10 @@ from = "m"
 """
 
 
+def calibrate(study, observed, ranges, most=80, first=16, searches=3, **terms):
+    return fitted(Calibration(study, observed, ranges, **terms), most, first, searches)
+
+
 def study(tmp_path, flow=2160, name="s.toml"):
     path = tmp_path / name
     path.write_text(STUDY.replace("saturation_flow = 2160", f"saturation_flow = {flow}"))
@@ -43,7 +47,8 @@ def seen(tmp_path, report, places=("m.0.5", "m.1.5"), speeds=True):
         cell = {"m.0.5": "m2", "m.1.5": "m6"}[place]
         for quarter in range(8):
             steps = slice(90 * quarter, 90 * (quarter + 1))
-            flow, held = (frame[cell].to_numpy()[steps].mean() for frame in (report.flow, report.held))
+            flow = report.left[cell].diff().to_numpy()[1:][steps].mean()
+            held = report.vehicles[cell].to_numpy()[:-1][steps].mean()
             start, end = (f"{6 + minutes // 60:02d}:{minutes % 60:02d}" for minutes in (15 * quarter, 15 * quarter + 15))
             rows.append(f"{place},{start},{end},{flow * 360:.3f}" + f",{90 * flow / held:.3f}" * speeds)
     path = tmp_path / "seen.csv"
@@ -114,6 +119,14 @@ def test_how_far_a_value_does_as_well_is_halved():
         tried.append(reach.parts[0])
         reach.judged(reach.parts[0] <= 0.6)
     assert tried == [1, 0.75, 0.625, 0.5625, 0.59375] and reach.end == (0.59375,)
+
+
+def test_each_key_has_its_own_values_that_do_as_well():
+    # Six tries from 32 to an end of 0 to 64 come to a whole number.
+    off = {(float(x), float(y)): 1.0 if 30 <= x <= 35 and 20 <= y <= 50 else 2.0 for x in range(65) for y in range(65)}
+    own = SimpleNamespace(ranges=[range_of("x=0:64"), range_of("y=0:64")], need=lambda points: None, off=off,
+                          point_of=lambda parts: Calibration.point_of(own, parts))
+    assert Calibration.as_well(own, (32.0, 32.0)) == {"x": (30, 35), "y": (20, 50)}
 
 
 def test_values_that_do_as_well_are_told(tmp_path, recording_program):

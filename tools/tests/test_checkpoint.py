@@ -13,9 +13,10 @@ import pytest
 
 from ctmtools import build, read_study
 from ctmtools.commands import run
+from ctmtools.files.seals import sealed_text, unsealed_text
 from ctmtools.moments.moment import read_moment
-from ctmtools.moments.stretches import stretch_of
-from ctmtools.network_file.editing import with_steps
+from ctmtools.runs.stretches import stretch_of
+from ctmtools.network_file.records import with_steps
 from ctmtools.problem import Problem
 from ctmtools.units import Units
 
@@ -63,6 +64,7 @@ def test_the_bar_begins_behind_the_stretches_that_were_kept(monkeypatch, tmp_pat
         shown.append((count, what))
         yield lambda more=1, text="": shown.append((more, text))
     monkeypatch.setattr(run, "bar", bar)
+    monkeypatch.setattr(run, "runner_of", lambda *_: None)
     monkeypatch.setattr(run, "run_in_stretches", lambda *given: given[-1](1080))
     prepared = SimpleNamespace(units=Units(step=10, start=0), network=SimpleNamespace(steps=1440))
     run._in_stretches(tmp_path / "a.report", prepared, 360, reached and SimpleNamespace(last=reached), None)
@@ -129,12 +131,12 @@ os.replace = replace"""
     assert ended.returncode == -signal.SIGKILL
     assert tool(*WORDS)[0] == 0
     assert (tmp_path / "interchange.report").read_bytes() == whole
-    assert not [name for name in os.listdir(tmp_path) if name.endswith((".saved", ".part"))]
+    assert not [name for name in os.listdir(tmp_path) if name.endswith(".saved") or ".ctm-" in name]
 
 
 def test_a_run_that_is_interrupted_says_from_where_it_goes_on(program, tmp_path, monkeypatch, tool, whole):
     monkeypatch.chdir(tmp_path)
-    patient = "from ctmtools import interrupt\ninterrupt.PATIENCE = 100\nfrom ctmtools.command_line import main"
+    patient = "from ctmtools.program import interrupt\ninterrupt.PATIENCE = 100\nfrom ctmtools.command_line import main"
     ended = started(stand_in(tmp_path, program, 4, f"touch {tmp_path}/reached; exec sleep 1000"), patient)
     while not (tmp_path / "reached").exists():
         assert ended.poll() is None
@@ -160,7 +162,9 @@ def test_what_was_kept_of_another_study_is_refused(tool, program, tmp_path):
     assert (tmp_path / "interchange.saved").read_bytes() == saved and not (tmp_path / "interchange.csv").exists()
 
 
-@pytest.mark.parametrize("content, told", [(b"", "is no saved run"), (b"my notes", "is no saved run"), (b"saved,1,1\n", "cut short")])
+@pytest.mark.parametrize("content, told", [
+    (b"", "is no saved run"), (b"my notes", "is no saved run"),
+    (b"saved,1,1\n", "isn't whole, or `--checkpoint` didn't write it")])
 def test_what_is_no_saved_run_is_left_alone(tool, program, tmp_path, content, told):
     (tmp_path / "interchange.saved").write_bytes(content)
     status, out, err = tool(*WORDS)
@@ -170,7 +174,8 @@ def test_what_is_no_saved_run_is_left_alone(tool, program, tmp_path, content, to
 def test_rows_that_were_cut_off_are_refused_by_the_program(tool, program, tmp_path):
     started(stand_in(tmp_path, program, 4, "kill -9 $PPID")).communicate()
     path = tmp_path / "interchange.saved"
-    path.write_bytes(path.read_bytes().replace(b"net\n", b"row,0,0,0,0,0,0\nnet\n", 1))
+    text = unsealed_text(path.read_bytes(), path)
+    path.write_bytes(sealed_text(text.replace(b"net\n", b"row,0,0,0,0,0,0\nnet\n", 1)))
     status, out, err = tool(*WORDS)
     assert status == 2 and "ctm: saved: code 3 Cutting" in err
 

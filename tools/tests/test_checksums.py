@@ -5,7 +5,7 @@ import json
 import pytest
 
 from ctmtools.problem import Problem
-from ctmtools.program import ask
+from ctmtools.program.calls import ask
 from ctmtools.report.reading import read_report
 
 from .corridor import corridor_text
@@ -101,7 +101,7 @@ def test_an_older_file_of_units_is_held_against_its_network(tool, program, tmp_p
     study(tmp_path)
     tool("run", "s.toml")
     values = json.loads((tmp_path / "s.units.json").read_text())
-    for key in ("network_checksum", "report_checksum", "report_network", "steps"):
+    for key in ("network_checksum", "report_checksum", "report_network", "steps", "seal"):
         del values[key]
     (tmp_path / "s.units.json").write_text(json.dumps(values))
     assert tool("table", "s.report", "--totals")[0] == 0

@@ -9,11 +9,11 @@ import pytest
 from ctmtools.plans.candidates import candidate, delays, question
 from ctmtools.plans.choosing import Choice
 from ctmtools.problem import Problem
-from ctmtools.running import run
+from ctmtools.runs.running import run
 from ctmtools.study.network_text import build
 from ctmtools.study.reading import read_values
-from ctmtools.sweeps.task import Task, study
-from ctmtools.sweeps.variations import variation
+from ctmtools.many_runs.task import Task, study
+from ctmtools.many_runs.variations import variation
 
 from .examples import EXAMPLES
 
@@ -41,7 +41,7 @@ def test_the_street_has_the_plans_that_were_written_by_hand(program):
     found, groups = choice(STREET, "signals.offset=0:150:10")
     assert groups == [16]
     assert [found.delays[i] for i in range(16)] == [Fraction(line.split(",")[2]) for line in written[:16]]
-    assert found.frame()["signals.offset"][0] == 40 and written[16] == "choice,4"
+    assert found.results().rows["signals.offset"][0] == 40 and written[16] == "choice,4"
 
 
 def test_the_base_leaves_out_what_is_varied():
@@ -71,11 +71,11 @@ def test_each_plan_has_the_delay_of_its_own_run(name, varied, program):
 def test_more_plans_than_a_call_takes_and_ties(program):
     found, groups = choice(STREET, "signals.offset=40,0,50", "signals.first_green=0:50:10", "title=a")
     assert groups == [16, 2]
-    frame = found.frame()
+    frame = found.results().rows
     assert list(frame.delay_vehicle_hours) == sorted(frame.delay_vehicle_hours)
     # Two texts of the title are one network: of equal delays the first plan is the first.
     found, _ = choice(STREET, "title=b,a", "signals.offset=40,0")
-    assert list(found.frame().title) == ["b", "a", "b", "a"]
+    assert list(found.results().rows.title) == ["b", "a", "b", "a"]
 
 
 @pytest.mark.parametrize("varied, named, what", [

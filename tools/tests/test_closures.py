@@ -204,12 +204,12 @@ priorities = [3, 1]
 
 def passed(made, cell):
     """The vehicles that leave a cell before 07:00, from then to 09:00, and after that."""
-    gone = report_of(plain_model.report(made.text.encode(), 1)).departed[cell]
+    gone = report_of(plain_model.report(made.text.encode(), 1)).left[cell]
     return gone[360], gone[1080] - gone[360], gone.iloc[-1] - gone[1080]
 
 
 def test_the_meter_of_the_page_on_saved_moments(tmp_path):
-    text = (TOOLS / "docs" / "saved.md").read_text().split("is a signal at the end of the ramp")[1]
+    text = (TOOLS / "docs" / "saved.md").read_text().split("## A ramp meter by time of day")[1]
     meter, rate = text.split("```")[1], text.split("`limits` of the ramp's gate, `")[1].split("`")[0]
     made = corridor(tmp_path, RAMP.format("") + meter, end="10:00")
     before, metered, after = passed(made, "a2")

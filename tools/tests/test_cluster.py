@@ -1,9 +1,12 @@
 """What is gathered from a cluster, whatever becomes of a result between its coming and its being asked for."""
 
+import re
+from pathlib import Path
+
 import pytest
 
+from ctmtools.many_runs import workers
 from ctmtools.problem import Problem
-from ctmtools.sweeps import workers
 
 pytest.importorskip("distributed", reason="python3-distributed is missing")
 FOUND = {"delay_vehicle_hours": 1.0, "error": ""}
@@ -71,7 +74,7 @@ class Completed:
 def gathered(monkeypatch, *futures):
     monkeypatch.setattr("distributed.as_completed", Completed)
     monkeypatch.setattr(workers, "PAUSE", 0)
-    return dict(workers._gathered(Client(futures), range(len(futures)), "tcp://x"))
+    return dict(workers._gathered(Client(futures), range(len(futures)), "tcp://x", dict))
 
 
 OF_THE_SCHEDULER = OSError("Timed out trying to connect to tcp://x")
@@ -117,3 +120,20 @@ def test_a_client_that_loses_its_scheduler_while_it_is_asked():
 
     losing = Losing([])
     assert not workers._is_lost(losing) and workers._is_lost(losing)
+
+
+TOP = Path(__file__).resolve().parents[2]
+DOCUMENTS = [*TOP.glob("*.md"), *TOP.glob("docs/**/*.md"), *TOP.glob("tools/**/*.md"), *TOP.glob("examples/*.md"), *TOP.glob("tools/ctmtools/commands/*.py")]
+
+
+@pytest.mark.parametrize("word", ["dask-scheduler", "dask-worker"])
+def test_examples_bind_to_the_loopback_or_ask_for_certificates(word):
+    lines = [line for path in DOCUMENTS for line in path.read_text().splitlines() if line.startswith(word)]
+    assert len(lines) >= 2
+    for line in lines:
+        assert "--host 127.0.0.1" in line or "--tls-ca-file" in line and "--tls-cert" in line and "tls" in line.partition("--tls-ca-file")[0]
+
+
+def test_examples_name_a_scheduler_on_the_loopback_or_with_certificates():
+    addresses = [found for path in DOCUMENTS for found in re.findall(r"--dask ((?:tcp|tls)://\S+)", path.read_text())]
+    assert len(addresses) >= 4 and all(one.startswith(("tcp://127.0.0.1:", "tls://")) for one in addresses)

@@ -3,12 +3,13 @@
 import os
 import subprocess
 import sys
+from pathlib import Path
 
 import pytest
 
 from ctmtools import Problem
 from ctmtools.command_line import COMMANDS
-from ctmtools.files import write
+from ctmtools.files.writing import write
 
 from .examples import EXAMPLES, TOOLS
 
@@ -40,7 +41,7 @@ def test_help_has_examples(tool, words):
     (["plot", "delay", EXAMPLES / "bottleneck.report", "--network", EXAMPLES / "event.csv"], "other cells"),
     (["table", EXAMPLES / "bottleneck.report", "--totals", "-o", "none/x.csv"], "no such file"),
     (["plot", "delay", EXAMPLES / "bottleneck.report", "--units", "none.units.json"], "no such file")],
-    ids=lambda value: " ".join(map(str, value))[:40] if isinstance(value, list) else "")
+    ids=lambda value: " ".join(Path(word).name for word in value) if isinstance(value, list) else "")
 def test_errors_are_one_line(tool, words, told):
     status, out, err = tool(*words)
     assert status == 2 and told.lower() in err.lower()
@@ -61,7 +62,9 @@ def test_a_file_of_another_is_not_written_over(tool):
         file.write("ctm,1\n")
     status, out, err = tool("build", EXAMPLES / "bottleneck.toml")
     assert status == 2 and "wasn't made by ctm-tools" in err and open("bottleneck.csv").read() == "ctm,1\n"
-    assert tool("build", EXAMPLES / "bottleneck.toml", "-o", "bottleneck.csv")[0] == 0
+    status, _, err = tool("build", EXAMPLES / "bottleneck.toml", "-o", "bottleneck.csv")
+    assert status == 2 and "or say --force" in err and open("bottleneck.csv").read() == "ctm,1\n"
+    assert tool("build", EXAMPLES / "bottleneck.toml", "--force")[0] == 0
 
 
 @pytest.mark.parametrize("name", ["bottleneck", "event"])
@@ -135,12 +138,12 @@ def test_compare(tool, reports):
 def test_table(tool, reports):
     status, out, err = tool("table", reports("arterial-0"), "--cell", "c04", "-o", "t.csv")
     lines = open("t.csv").read().splitlines()
-    assert status == 0 and len(lines) == 422 and lines[0].startswith("time,cell,occupancy,flow,density,speed")
+    assert status == 0 and len(lines) == 422 and lines[0].startswith("time,cell,vehicles,flow,density,speed")
     assert lines[61] == "07:10:00,c04,21,3240,168,19.2857143,60,c,0.375,0.5,2"
     status, out, err = tool("table", EXAMPLES / "event.report", "--totals", "--separator", ";", "--decimal", ",")
     assert status == 0 and out.splitlines()[1] == "stadium;8,4e-05;8000;7999,99992;2319858,04"
     status, out, err = tool("table", reports("arterial-0"), "--totals", "--cell", "c04")
-    assert out.splitlines() == ["cell,occupancy,come,gone,delay,road,from_km,to_km,lanes",
+    assert out.splitlines() == ["cell,vehicles,entered,left,delay,road,from_km,to_km,lanes",
                                 "c04,0,1080,1080,6.75,c,0.375,0.5,2"]
 
 

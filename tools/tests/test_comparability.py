@@ -5,7 +5,7 @@ from types import SimpleNamespace
 import plain_model
 import pytest
 
-from ctmtools.files import write_units
+from ctmtools.runs.outputs import write_units
 from ctmtools.report.comparability import other_lanes_and_speeds
 from ctmtools.units import units_path
 

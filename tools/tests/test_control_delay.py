@@ -5,7 +5,7 @@ import re
 import pytest
 
 from ctmtools import read_study
-from ctmtools.running import settled_by_runs
+from ctmtools.runs.running import settled_by_runs
 from ctmtools.yielding.control_delay import at_roundabout, at_signal, at_stop
 
 from .examples import EXAMPLES
@@ -37,7 +37,7 @@ def lost(found):
 
 
 def test_a_side_street_below_its_capacity_tells_what_the_formula_has(tmp_path, recording_program):
-    found = settled_by_runs(read_study(write(tmp_path, SIDE.format(main=600, low=400, high=400))))
+    found = settled_by_runs(read_study(write(tmp_path, SIDE.format(main=600, low=400, high=400))).scenario)
     # Past 600 vehicles/h pass 504.6: x = 0.7927, 7.13 + 225·(-0.2073 + sqrt(0.04298 + 0.05027)) + 5 = 34.2 s. In the first of 12
     # intervals and behind the first vehicles the road is still empty.
     assert lost(found) == [pytest.approx(34.2, rel=0.03)]
@@ -48,7 +48,7 @@ def test_a_side_street_below_its_capacity_tells_what_the_formula_has(tmp_path, r
 
 
 def test_a_full_side_street_has_its_queue_and_no_such_loss(tmp_path, recording_program):
-    found = settled_by_runs(read_study(write(tmp_path, SIDE.format(main=600, low=400, high=700))))
+    found = settled_by_runs(read_study(write(tmp_path, SIDE.format(main=600, low=400, high=700))).scenario)
     waits, = found.waits
     # From 07:30:36 on it is full, so in the last five of twelve intervals. 200 come to it before, and 37.0 pass until 07:35.
     assert waits.full == 5 and waits.vehicles == pytest.approx(237, abs=1)
@@ -59,12 +59,12 @@ def test_a_permitted_left_turn_tells_what_its_fixed_greens_leave_to_chance(tmp_p
     # 300 turn where by hand 477.3 may: x = 0.6286, 225·(-0.3714 + sqrt(0.13796 + 4·0.6286/(477.3·0.25))) = 225·0.02739 = 6.16 s.
     text = CROSSING.format(more=PERMITTED.replace("SNEAKERS", "2")).replace('gs = {{ into = "s", demand = 600 }}', "").replace(
         "demand = 600", "demand = 300")
-    found = settled_by_runs(read_study(write(tmp_path, text)))
+    found = settled_by_runs(read_study(write(tmp_path, text)).scenario)
     assert lost(found) == [pytest.approx(6.16, rel=0.05)]
 
 
 @pytest.mark.parametrize("name, seconds", [("stop", 46.6), ("roundabout", 14.8)])
 def test_the_village_loses_what_paper_says_at_today_s_traffic(name, seconds, recording_program):
     # 450 vehicles/h come where 504.6 and 748.3 may pass: x = 0.8918, 7.13 + 34.44 + 5, and x = 0.6014, 4.81 + 6.98 + 3.01.
-    found = settled_by_runs(read_study(EXAMPLES / f"village-{name}.toml"))
+    found = settled_by_runs(read_study(EXAMPLES / f"village-{name}.toml").scenario)
     assert lost(found) == [pytest.approx(seconds, rel=0.03)]

@@ -71,12 +71,12 @@ def test_two_columns_of_one_name_are_refused(tmp_path):
 
 def test_commas_of_thousands_are_told(tmp_path):
     rows = QUARTERS.replace("360", '"1,000"')
-    assert 'expected a count, found "1,000"; write it without the comma of thousands' in problem(tmp_path, rows)
+    assert 'expected a count; write it without the comma of thousands' in problem(tmp_path, rows)
 
 
 def test_a_count_that_may_be_one_or_a_thousand_is_refused(tmp_path):
     rows = QUARTERS.replace("360", "1.000")
-    assert 'line 5, n: "1.000" may be 1 or a number of thousands; write it without the point, or say decimal = "."' in \
+    assert 'line 5, n: may have decimals, or be a number of thousands; write it without the point, or say decimal = "."' in \
         problem(tmp_path, rows)
     # With a decimal sign that is said it is one in 15 min, 4 vehicles/h, or a mistake.
     assert demands(counted(tmp_path, rows, 'decimal = "."')) == [*FLOWS[:3], ["270", "360", "0.011111"]]
@@ -133,6 +133,10 @@ def test_a_row_with_more_fields_than_the_head_is_refused(tmp_path):
     assert demands(counted(tmp_path, QUARTERS.replace("270", "270, ,"))) == FLOWS
     indexed = "".join(f"{i or ''},{row}\n" for i, row in enumerate(QUARTERS.splitlines()))
     assert demands(counted(tmp_path, indexed)) == FLOWS
+
+
+def test_a_row_of_too_many_fields_is_refused(tmp_path):
+    assert "line 6 has 10,001 fields; a row may have 10,000" in problem(tmp_path, QUARTERS + "07:00" + "," * 10_000 + "\n")
 
 
 def test_a_missing_row_doesnt_stretch_its_neighbour(tmp_path):
@@ -199,9 +203,9 @@ def test_several_days_without_dates_are_refused(tmp_path):
 def test_a_station_is_chosen_from_a_column(tmp_path):
     rows = "station,time,n\n" + "".join(f"{name},{row[:5]},{int(row[6:]) * factor}\n" for row in QUARTERS.splitlines()[1:]
                                         for name, factor in (("A7-1", 5), ("A7-2", 1)))
-    assert "has several stations, A7-1, A7-2; choose one by station" in problem(tmp_path, rows)
+    assert "has 2 stations, which `ctm-tools detectors` prints; choose one by station" in problem(tmp_path, rows)
     assert demands(counted(tmp_path, rows, 'station = "A7-2"')) == FLOWS
-    assert "has no station A7-3, it has A7-1, A7-2" in problem(tmp_path, rows, 'station = "A7-3"')
+    assert "has no station A7-3, it has 2 stations, which `ctm-tools detectors` prints" in problem(tmp_path, rows, 'station = "A7-3"')
     other = rows.replace("station", "site").replace("A7-1", "1").replace("A7-2", "2")
     assert "line 3 has the same time as line 2" in problem(tmp_path, other)
     assert demands(counted(tmp_path, other, 'station = 2, station_column = "site"')) == FLOWS
@@ -246,7 +250,7 @@ def test_mistakes_in_the_keys(tmp_path, terms, wanted):
 
 
 @pytest.mark.parametrize("content, wanted", [
-    (QUARTERS.replace("270", "27o"), 'line 4, n: expected a count, found "27o"'),
+    (QUARTERS.replace("270", "27o"), 'line 4, n: expected a count'),
     (QUARTERS.replace("270", "-1"), "line 4, n: a count isn't negative"), ("time,n\n", "has no rows of counts"),
     ("time,n\n06:00,5\n", "with one row alone, say interval"), (QUARTERS.replace(",270", ""), "line 4 has too few columns"),
     (QUARTERS.replace("06:30", "06:20").replace("06:15", "06:25"), "line 4 is of an earlier time than line 3"),

@@ -61,7 +61,8 @@ def test_a_grid_of_two_keys_has_a_square_of_points(count, each):
 def test_what_is_told_of_each_detector(tool, tmp_path, monkeypatch):
     def fitted(*_, **__):
         model = pandas.DataFrame({"flow": [50.0, 110.0], "speed": [80.0, 60.0]})
-        return Fitted({"lane.wave_speed": 17.5, "demand": 0.9}, 0.25, 0.5, model, 7, {"lane.wave_speed": (15, 20), "demand": (0.9, 0.9)})
+        return Fitted(pandas.DataFrame(), values={"lane.wave_speed": 17.5, "demand": 0.9}, distance=0.25, before=0.5, modelled=model, runs=7,
+                      as_well={"lane.wave_speed": (15, 20), "demand": (0.9, 0.9)})
     monkeypatch.setattr("ctmtools.commands.calibrate.fitted", fitted)
     corridor(tmp_path)
     (tmp_path / "d.csv").write_text("place,start,end,flow,speed\nm.0.5,06:00,06:10,150,77\nm.1,06:00,06:10,110,\n")
@@ -87,13 +88,14 @@ def test_values_of_four_digits_are_tried(tmp_path, part, value):
 
 def test_a_run_beside_others_has_one_worker(tmp_path, monkeypatch):
     calls = []
-    monkeypatch.setattr(fitting, "run", lambda *words: calls.append(words) or ("text", "report"))
+    (tmp_path / "ctm").touch()
+    monkeypatch.setattr("ctmtools.many_runs.task.run", lambda *words, **named: calls.append((*words, named)) or ("text", "report"))
     monkeypatch.setattr(fitting, "modelled", lambda report, observed: report)
     monkeypatch.setattr(fitting, "program_path", lambda: tmp_path / "ctm")
-    assert fitting.tried(calibration(tmp_path)._trial((17.5,))) == {"model": "report", "error": ""}
-    (content, _, units, every, workers, program), = calls
+    assert fitting.tried(calibration(tmp_path)._trial((17.5,))) == {"model": "report"}
+    (content, _, units, every, workers, named), = calls
     # 17.5 by 90 km/h are 7 by 36.
-    assert b"road,m1,72,12,7,36,0" in content and (units.step, every, workers, program) == (10, None, 1, str(tmp_path / "ctm"))
+    assert b"road,m1,72,12,7,36,0" in content and (units.step, every, workers, named["program"]) == (10, None, 1, str(tmp_path / "ctm"))
 
 
 # A single run, as each of a search that goes down, is made here whatever there is beside.
@@ -102,5 +104,5 @@ def test_a_run_beside_others_has_one_worker(tmp_path, monkeypatch):
     (2, 2, "tcp://a:1", ("cluster", "tcp://a:1")), (1, 1, "tcp://a:1", ("here",))])
 def test_who_does_the_runs(tmp_path, monkeypatch, count, jobs, address, wanted):
     for name in ("here", "beside", "cluster"):
-        monkeypatch.setattr(fitting, name, lambda trials, *words, name=name: (name, *words[:-1]))
+        monkeypatch.setattr(f"ctmtools.many_runs.workers.{name}", lambda trials, *words, name=name: (name, *words[:-1]))
     assert calibration(tmp_path, jobs=jobs, dask=address)._done(["trial"] * count) == wanted

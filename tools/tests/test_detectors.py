@@ -8,9 +8,9 @@ import pandas
 import pytest
 
 import ctmtools
-from ctmtools import Problem, build, read_detectors, read_study
+from ctmtools import Problem, allow_files, build, read_detectors, read_study
 from ctmtools.calibration.observed import read_observed
-from ctmtools.commands.detector_options import wanted_by
+from ctmtools.detectors.options import wanted_by
 from ctmtools.detectors.days import comes_again, hours_of, is_skipped
 from ctmtools.detectors.names import Quantity, quantity_of, station_and_quantity
 
@@ -43,8 +43,10 @@ def test_each_format_gives_the_same_rows(formats, name):
 
 
 @pytest.mark.parametrize("name", FORMATS)
-def test_each_format_gives_the_same_study(formats, tmp_path, name):
+def test_each_format_gives_the_same_study(formats, tmp_path, monkeypatch, name):
     files, terms = formats[name]
+    monkeypatch.setattr("ctmtools.study.folder._allowed", {})
+    allow_files(*(path.parent for path in files))
     said = "".join(f', {key} = "{value}"' for key, value in terms.items())
     text = f'{{ counts = {json.dumps([str(path) for path in files])}, station = "102", date = "2019-12-04"{said} }}'
     # A step is 10 s, so an interval has 30 steps.
@@ -57,7 +59,7 @@ def test_each_format_gives_the_same_study(formats, tmp_path, name):
 def test_each_format_gives_the_same_calibration(formats, tmp_path, name):
     files, terms = formats[name]
     corridor(tmp_path)
-    seen = read_observed(files, wanted_by(dates=("2019-12-04",), **terms), {"101": "m.0.5", "103": "m.1"}, read_study(tmp_path / "study.toml"))
+    seen = read_observed(files, wanted_by(dates=("2019-12-04",), **terms), {"101": "m.0.5", "103": "m.1"}, read_study(tmp_path / "study.toml").scenario)
     wanted = []
     for station, place in (("101", "m.0.5"), ("103", "m.1")):
         for second in range(6 * 3600, 7 * 3600, 300):
@@ -315,7 +317,7 @@ def test_rows_from_second_to_second(tmp_path):
     ("station,time,count,speed\na,06:00,5,50\na,06:05,5,50\n", "line 1: the unit of speed isn't said; name it speed (km/h) or another unit, or say speed_unit"),
     ("station,time,count,flow (veh/h)\na,06:00,5,60\n", "line 1 has two columns of flow, count and flow (veh/h)"),
     ("time,a flow (veh/h),b count\n06:00,60,5\n06:05,60,5\n", "some flows are vehicles in the interval, and others vehicles/h"),
-    (HEAD + "a,06:00,5\na,06:05,x\n", 'line 3, count: expected a count, found "x"'), (HEAD + "a,06:00,5\na,soon,5\n", 'line 3, time: expected a time such as'),
+    (HEAD + "a,06:00,5\na,06:05,x\n", 'line 3, count: expected a count'), (HEAD + "a,06:00,5\na,soon,5\n", 'line 3, time: expected a time such as'),
     (HEAD + "a,06:00,5\na,,5\n", 'line 3, time: expected a time such as'),
     (HEAD + "a,06:00:01,5\na,06:00:00,5\n", "is of an earlier time than"),
     ("station,time,end,count\na,06:00,06:05,5\na,06:05,06:15,5\n", "line 3 is of 600 s, and line 2 of 300 s; the intervals are of one length"),
@@ -334,7 +336,8 @@ def test_files_that_are_refused(tmp_path, content, told):
 
 @pytest.mark.parametrize("content, told", [
     (gzip.compress(counts().encode())[:-20], "is packed by gzip, and isn't whole"), (b"PK\x03\x04rest", "is a zip archive or a workbook"),
-    ("time,n\n".encode("utf-16")[:-1], "begins as UTF-16, and isn't whole"), (b"station,time,count\na,06:00,\0\n5", "line 2 has a zero byte")])
+    ("time,n\n".encode("utf-16")[:-1], "begins as UTF-16, and isn't whole"), (b"station,time,count\na,06:00,\0\n5", "line 2 has a zero byte")],
+    ids=["cut off by gzip", "zip", "cut off in UTF-16", "zero byte"])
 def test_files_that_are_no_text(tmp_path, content, told):
     (tmp_path / "d.csv").write_bytes(content)
     assert told in problem(read_detectors, tmp_path / "d.csv")
@@ -355,7 +358,7 @@ def test_midnight_as_24_00_is_of_the_next_day(tmp_path):
 @pytest.mark.parametrize("terms, told", [
     ({"leave_out": ["broken"]}, '--leave-out: expected all or repeated, observed'), ({"leave_out": ["observed=x"]}, "expected observed=NUMBER"),
     ({"leave_out": ["observed=-0.5"]}, "expected observed=NUMBER"),
-    ({"leave_out": ["no-flow=3"]}, "expected no-flow, found"), ({"station": "9"}, "has no station 9, it has 101, 102, 103"),
+    ({"leave_out": ["no-flow=3"]}, "expected no-flow, found"), ({"station": "9"}, "has no station 9, it has 3 stations, which"),
     ({"dates": ["2019-12-09"]}, "has no 2019-12-09, it has 2019-12-03, 2019-12-04"), ({"dates": ["sunday"]}, "no day of it is of sunday"),
     ({"per": "hour"}, 'count is in vehicles, and per = "hour" is asked'), ({"interval": "7 min"}, "isn't some intervals of 420 s"),
     ({"leave_out": ["capacity"]}, "the rule capacity needs the number of lanes")])
@@ -404,6 +407,8 @@ def test_the_command(tool, formats, tmp_path):
     columns = ["station", "time", "flow", "speed", "occupancy"]
     assert again[columns].values.tolist() == first[columns].values.tolist()
     status, out, err = tool("detectors", path, "-o", path)
+    assert status == 2 and "isn't what this command makes" in err
+    status, out, err = tool("detectors", path, "-o", path, "--force")
     assert status == 2 and "is one of the files that are read" in err
     status, out, err = tool("detectors", tmp_path / "none.csv", "-o", "new.csv")
     assert status == 2 and "no such file" in err and err.count("\n") == 1 and not (tmp_path / "new.csv").exists()
@@ -429,9 +434,11 @@ def test_folders_and_patterns(formats, tmp_path):
     assert "is named twice" in problem(read_detectors, [first, first])
 
 
-def test_the_next_day_of_a_study_that_passes_midnight(formats, tmp_path):
+def test_the_next_day_of_a_study_that_passes_midnight(formats, tmp_path, monkeypatch):
     from .corridor import HEAD as STUDY_HEAD
     path = formats["pems"][0][0]
+    monkeypatch.setattr("ctmtools.study.folder._allowed", {})
+    allow_files(path.parent)
     made_of = corridor(tmp_path, demand=f'{{ counts = "{path}", station = "101", date = "12/03/2019" }}', end="00:30",
                        head=STUDY_HEAD.replace("06:00", "23:30"))
     wanted = [made("101", DAYS[0], 84600 + 300 * i)[0] for i in range(6)] + [made("101", DAYS[1], 300 * i)[0] for i in range(6)]
@@ -440,8 +447,8 @@ def test_the_next_day_of_a_study_that_passes_midnight(formats, tmp_path):
 
 
 def test_a_sweep_knows_each_file_of_counts_of_gates_and_of_trips(tmp_path):
+    from ctmtools.many_runs.task import Task, fingerprint
     from ctmtools.plans.searching import moved_to
-    from ctmtools.sweeps.task import Task, fingerprint
 
     values = {"gates": {"g": {"demand": {"counts": "c-*.csv"}}}, "trips": [{"demand": {"counts": ["t.csv"]}}]}
     marks = set()
@@ -471,10 +478,10 @@ def test_one_table_in_many_spellings(tmp_path, content, terms):
 
 @pytest.mark.parametrize("content, terms, told", [
     (HEAD + DATED + HEAD, {}, 'line 8, time: expected a time such as'), (HEAD + DATED + DATED, {}, "line 8 has the same time as line 2 of station a"),
-    ((HEAD + DATED).replace(",", ";").replace(";3\n", ";3,5\n"), {}, 'line 5, count: expected a count, found "3,5"; say decimal = ","'),
-    (HEAD + DATED.replace(",3\n", ",1e400\n"), {}, 'line 5, count: expected a count, found "1e400"'), (HEAD + DATED, {"separator": ";;"}, "a separator is one character"),
+    ((HEAD + DATED).replace(",", ";").replace(";3\n", ";3,5\n"), {}, 'line 5, count: expected a count; say decimal = ","'),
+    (HEAD + DATED.replace(",3\n", ",1e400\n"), {}, 'line 5, count: expected a count'), (HEAD + DATED, {"separator": ";;"}, "a separator is one character"),
     (HEAD + "a,2019-12-31T06:00Z,1\na,31.12.2019 06:05Z,1\n", {"zone": "Europe/Berlin"}, "line 3, time: a time with a zone has a date such as 2019-12-04"),
-    (HEAD + "a,2019-02-30T06:00Z,1\n", {"zone": "Europe/Berlin"}, "2019-02-30T06:00Z is of no date"), (HEAD + "a,2019-12-04 06:00,\n", {"interval": "5 min"}, "has no flow in any row"),
+    (HEAD + "a,2019-02-30T06:00Z,1\n", {"zone": "Europe/Berlin"}, "line 2, time: is of no date"), (HEAD + "a,2019-12-04 06:00,\n", {"interval": "5 min"}, "has no flow in any row"),
     (HEAD + "a,23:55,1\na,00:00,2\n", {}, "line 3 is of an earlier time than line 2, and no dates tell of which day"), ("\ufeff", {}, "no column of times"),
     (HEAD + DATED.replace("2019-12-04 ", ""), {"dates": ["weekdays"]}, "has no dates"), (HEAD + DATED, {"interval": "0 s"}, "an interval is above 0")])
 def test_what_an_adversary_tries(tmp_path, content, terms, told):
@@ -482,8 +489,15 @@ def test_what_an_adversary_tries(tmp_path, content, terms, told):
     assert told in problem(read_detectors, tmp_path / "d.csv", **terms)
 
 
+@pytest.mark.parametrize("places, wanted", [({"101": "m.0.5", "103": "m.1"}, "101, 103"), ({}, "a station")])
+def test_a_calibration_shorter_than_an_interval_is_refused(formats, tmp_path, places, wanted):
+    corridor(tmp_path, end="06:04")
+    told = problem(read_observed, formats["counts"][0], wanted_by(dates=("2019-12-03",)), places, read_study(tmp_path / "study.toml").scenario)
+    assert told.endswith(f"has no row of {wanted} within the study's time")
+
+
 def test_a_calibration_past_midnight_is_refused(formats, tmp_path):
     from .corridor import HEAD as STUDY_HEAD
     corridor(tmp_path, head=STUDY_HEAD.replace("06:00", "23:30"), end="00:30")
-    told = problem(read_observed, formats["counts"][0], wanted_by(dates=("2019-12-03",)), {"101": "m.0.5"}, read_study(tmp_path / "study.toml"))
+    told = problem(read_observed, formats["counts"][0], wanted_by(dates=("2019-12-03",)), {"101": "m.0.5"}, read_study(tmp_path / "study.toml").scenario)
     assert "the study passes midnight" in told

@@ -1,5 +1,6 @@
 """Files of detectors that are odd in one way each: what is read of them, or how they are refused."""
 
+import time
 from itertools import product
 
 import numpy
@@ -10,6 +11,8 @@ from ctmtools import Problem, read_detectors
 from ctmtools.detectors.missing import _places
 
 HEAD = "station,time,count\n"
+ROW = "a,2019-12-04 06:00,30\n"
+MOST_SECONDS = 3  # of processor time
 
 
 def written(folder, **files):
@@ -137,10 +140,10 @@ def test_numbers_are_read_as_they_are_written(tmp_path, count, wanted):
 
 
 @pytest.mark.parametrize("terms, counts, wanted", [
-    ({}, ("1.234", "5"), '"1.234" may be 1.234 or a number of thousands'), ({"decimal": ","}, ('"1,5"', "1.5"), 'expected a count, found "1.5"'),
-    ({}, ("4", "1234567890"), 'line 3, count: expected a count, found "1234567890"'), ({}, ("٣", "4"), 'line 2, count: expected a count, found "٣"'),
-    ({}, ("5", "0x10"), 'line 3, count: expected a count, found "0x10"'), ({}, ("1_0", "x"), 'line 2, count: expected a count, found "1_0"'),
-    ({}, ("inf", "4"), 'line 2, count: expected a count, found "inf"')])
+    ({}, ("1.234", "5"), 'may have decimals, or be a number of thousands'), ({"decimal": ","}, ('"1,5"', "1.5"), 'expected a count'),
+    ({}, ("4", "1234567890"), 'line 3, count: expected a count'), ({}, ("٣", "4"), 'line 2, count: expected a count'),
+    ({}, ("5", "0x10"), 'line 3, count: expected a count'), ({}, ("1_0", "x"), 'line 2, count: expected a count'),
+    ({}, ("inf", "4"), 'line 2, count: expected a count')])
 def test_numbers_about_which_there_is_doubt_are_refused(tmp_path, terms, counts, wanted):
     path, = written(tmp_path, n=HEAD + "".join(f"a,2019-12-04 0{6 + i}:00,{count}\n" for i, count in enumerate(counts)))
     assert wanted in refusal(path, **terms)
@@ -161,3 +164,38 @@ def test_fields_are_counted_line_by_line(tmp_path):
     from ctmtools.detectors.table import _widths
     assert _widths("a,b\n\nä,ö,ü\n", ",").tolist() == [2, 1, 3, 1] and _widths("", ",").tolist() == [1]
     assert _widths("a|b|c", "|").dtype == numpy.int64
+
+
+@pytest.mark.parametrize("text, line, fields", [
+    (HEAD + ROW + "," * 100_000 + "\n", 3, "100,001"), ("time" + ",n" * 10_000 + "\n", 1, "10,001"),
+    ("12/04/2019 00:00:00,400001" + "," * 100_000 + "\n", 1, "100,002"),
+], ids=["row", "head", "pems"])
+def test_a_row_of_too_many_fields_is_refused_before_columns_are_made(tmp_path, text, line, fields):
+    path, = written(tmp_path, n=text)
+    began = time.process_time()
+    assert refusal(path) == f"{path}: line {line} has {fields} fields; a row may have 10,000"
+    assert time.process_time() - began < MOST_SECONDS
+
+
+def test_fields_behind_the_columns_cost_nothing_while_they_are_blank(tmp_path):
+    later = "".join(ROW.replace("06:00", f"{hour:02}:{minute:02}") for hour in range(7, 24) for minute in range(60))
+    path, = written(tmp_path, n=HEAD + ROW.strip() + "," * 9990 + "\n" + later)
+    began = time.process_time()
+    assert len(read_detectors(path, interval="1 min")) == 1 + 17 * 60
+    assert time.process_time() - began < MOST_SECONDS
+
+
+def test_a_text_behind_the_columns_is_refused_in_a_row_without_others(tmp_path):
+    path, = written(tmp_path, n=HEAD + ROW + ",,,\n,,,7\n")
+    assert "line 4 has 4 fields, and line 1 has 3" in refusal(path)
+
+
+def test_of_pems_no_more_lanes_are_read_than_roads_have(tmp_path):
+    row = "12/04/2019 06:0{}:00,400001,4,1,N,ML,0.5,10,100,50,0.05,65" + ",10,50,0.05,65,100" * 2
+    path, = written(tmp_path, p=row.format(0) + "\n" + row.format(5) + "," * 5 * 98 + "\n")
+    assert refusal(path) == f"{path}: line 2 has the fields of 100 lanes; a road may have 99"
+
+
+def test_a_first_line_that_is_a_field_without_an_end_is_refused(tmp_path):
+    path, = written(tmp_path, n="time," + "n" * 140_000 + "\n")
+    assert refusal(path) == f"{path}: line 1: field larger than field limit (131072)"

@@ -22,9 +22,10 @@ def opened(tool, recording_program):
 
 @pytest.mark.parametrize("informed, delay, back", [(0, 1796, None), (0.3, 1167.8, "09:35:00"), (1, 3.56, "09:15:00")])
 def test_the_delay_at_a_closed_bridge_is_the_one_on_paper(opened, informed, delay, back):
-    frame = assign(CLOSED, earlier=opened, informed=informed, gap=5e-5)
-    assert frame.attrs["delay_vehicle_hours"] == pytest.approx(delay, rel=0.002, abs=0.3)
-    assert frame.attrs["served_vehicles"] == pytest.approx(2520, abs=1)
+    found = assign(CLOSED, earlier=opened, informed=informed, gap=5e-5)
+    frame = found.rows
+    assert found.figures["delay_vehicle_hours"] == pytest.approx(delay, rel=0.002, abs=0.3)
+    assert found.figures["left_vehicles"] == pytest.approx(2520, abs=1)
     round_ = frame[frame.roads.apply(lambda roads: "bypass" in roads)]
     if back is None:
         assert round_.empty
@@ -36,7 +37,7 @@ def test_the_delay_at_a_closed_bridge_is_the_one_on_paper(opened, informed, dela
 
 
 def test_only_who_sets_out_later_chooses_anew(opened):
-    frame = assign(CLOSED, earlier=opened, informed=1, after="08:00", gap=0.001)
+    frame = assign(CLOSED, earlier=opened, informed=1, after="08:00", gap=0.001).rows
     round_ = frame[frame.roads.apply(lambda roads: "bypass" in roads)]
     assert round_.start.min() == "08:00:00"
 

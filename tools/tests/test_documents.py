@@ -27,8 +27,13 @@ LEFT_OUT = {
     "./ctm --install": "it builds the programs",
     "cp /usr/share/doc/ctm/examples/bottleneck.toml own.toml": "tests/test_package.py runs those of a package",
     "man -l docs/ctm.1": "it needs man",
-    "dask-scheduler --port 8786": "it needs a cluster",
-    "dask-worker tcp://HOST:8786": "it needs a cluster",
+    "dask-scheduler --host 127.0.0.1 --port 8786 --dashboard-address 127.0.0.1:8787": "it runs until it is ended",
+    "dask-worker tcp://127.0.0.1:8786 --host 127.0.0.1 --dashboard-address 127.0.0.1:0": "it needs a cluster",
+    "./ctm-tools sweep study.toml --vary demand=0.8:1.2:0.01 --dask tcp://127.0.0.1:8786": "it needs a cluster",
+    "dask-scheduler --protocol tls --tls-ca-file ca.pem --tls-cert scheduler.pem --tls-key scheduler.key --host 10.0.0.1 --no-dashboard":
+        "it runs until it is ended",
+    "dask-worker tls://10.0.0.1:8786 --tls-ca-file ca.pem --tls-cert worker.pem --tls-key worker.key --no-dashboard": "it needs a cluster",
+    "./ctm-tools sweep study.toml --vary demand=0.8:1.2:0.01 --dask tls://10.0.0.1:8786": "it needs a cluster",
     "./ctm-tools import sumo town.net.xml --routes town.rou.xml --until \"1 h\" -o town.toml": "its files are a user's",
     "./ctm-tools import gmns town -o town.toml": "its files are a user's",
     "./ctm-tools import sumo NET.net.xml": "its files are a user's",
@@ -46,7 +51,6 @@ LEFT_OUT = {
     "./ctm-tools calibrate STUDY.toml --observed FILE.csv --vary KEY=LOW:HIGH": "its files are a user's",
     "./ctm-tools diagram FILE.csv": "its file is a user's",
     "./ctm-tools report town.report --map-behind": "its files are a user's",
-    "./ctm-tools sweep study.toml --vary demand=0.8:1.2:0.01 --dask tcp://HOST:8786": "it needs a cluster",
 }
 
 # What stands for what a reader puts in.
@@ -138,6 +142,24 @@ def test_the_lines_of_python_run(top, recording_program):
     assert ended(top, recording_program, "./ctm-tools", "run", "examples/bottleneck.toml")[0] == 0
     status, told = ended(top, recording_program, sys.executable, "-c", f"import ctmtools\n{lines}\nprint(queues.cell[0])")
     assert (status, told) == (0, "m20\n")
+
+
+@pytest.mark.parametrize("begin, end", [("report = ctmtools.run(", "print(len(html) > 0)"),
+                                        ("study = ctmtools.read_study(", "print(wider.title == 'Four lanes' and road.title == 'the study')")])
+def test_the_lines_on_methods_and_on_studies_in_code_run(top, recording_program, begin, end):
+    (lines,) = [block for block in read("tools/docs/python.md").split("```\n") if block.startswith(begin)]
+    assert ended(top, recording_program, sys.executable, "-c", f"import ctmtools\n{lines}\n{end}") == (0, "True\n")
+
+
+@pytest.mark.parametrize("question, answers", [
+    # 5,040 vehicles/h come at most, and two lanes carry 4,320, 86 % of these. All of the demand is the lane drop of examples/README.md.
+    ("How much less", ["80% of the demand: a queue of 0.00 km", "100% of the demand: a queue of 3.25 km", "No queue up to 85%"]),
+    ("Who needs longest", ["Who sets out at 08:00:00 needs 11.2 min, 5.0 at free flow"]),
+    ("What would", ["as it is: 461.25 vehicle-hours, 3.25 km, until 08:40", "341.25 vehicle-hours are saved"])])
+def test_a_question_is_answered_in_twenty_lines_of_python(top, recording_program, question, answers):
+    lines = read("tools/docs/python.md").split(f"\n{question}")[1].split("```\n")[1]
+    status, told = ended(top, recording_program, sys.executable, "-c", lines)
+    assert len(lines.splitlines()) <= 20 and status == 0 and stand_in_order(answers, told)
 
 
 def blocks(page):
@@ -281,7 +303,7 @@ def test_each_crate_is_told(page):
 INSIDE = [page for page in PAGES if page.startswith("docs/inside/")]
 
 
-@pytest.mark.parametrize("page", ["docs/inside/PROVED.md", "docs/inside/pictures/crates.svg", "docs/inside/pictures/field.svg",
+@pytest.mark.parametrize("page", ["crates/ctm/src/lib.rt", "docs/inside/PROVED.md", "docs/inside/pictures/crates.svg", "docs/inside/pictures/field.svg",
                                   *(str(path.relative_to(TOP)) for path in sorted(TOP.glob("docs/pictures/*.svg")))])
 def test_what_is_made_of_the_sources_is_made_of_these(page):
     """tools/documents makes it anew."""
@@ -326,4 +348,4 @@ def test_a_decision_is_told_in_80_words():
 
 def test_the_book_for_who_carries_the_project_on_stays_short():
     words = [word for page in [*INSIDE, "CONTRIBUTING.md"] for word in read(page).split() if re.search(r"\w", word)]
-    assert len(words) <= 11_200
+    assert len(words) <= 11_500

@@ -11,14 +11,13 @@ import pandas
 import pytest
 
 from ctmtools import draw, read_study, run
-from ctmtools.kept_rows import KeptRows
+from ctmtools.many_runs.kept_rows import KeptValues
+from ctmtools.many_runs.task import study
 from ctmtools.plans.candidates import candidate, judged
 from ctmtools.plots import draws
 from ctmtools.study.plan import Closure, RoadPart
-from ctmtools.sweeps.task import study
-from ctmtools.uncertainty.draw import drawn
-from ctmtools.uncertainty.drawn_runs import DrawnRuns
-from ctmtools.uncertainty.incident import happened
+from ctmtools.uncertainty.incident import drawn, happened
+from ctmtools.uncertainty.drawn_runs import DrawnRuns, Wanted
 from ctmtools.uncertainty.results import results_of
 from ctmtools.uncertainty.task import Asked
 
@@ -50,13 +49,13 @@ def chosen_of(tasks, _):
     candidates = [candidate(study(task.plan)) for task in tasks]
     for place, vehicle_steps in enumerate(found for group in judged(candidates) for found in group):
         hours = float(vehicle_steps * 60 / 3600)
-        yield place, {"delay_vehicle_hours": hours, "served_vehicles": 1500.0, "inside_vehicles": 0.0, "last_queue_s": None,
+        yield place, {"delay_vehicle_hours": hours, "left_vehicles": 1500.0, "inside_vehicles": 0.0, "last_queue_s": None,
                       "delays": {"gate on": hours}, "travel": {}, "free": {}, "past": {}, "incidents": 0, "network": "", "rounded": "",
                       "error": ""}
 
 
 def test_each_run_has_the_delay_that_is_a_square_of_its_demand(program, tmp_path):
-    drawn_runs = DrawnRuns([written(tmp_path, GATE + UNIFORM)], 60, 1)
+    drawn_runs = DrawnRuns([written(tmp_path, GATE + UNIFORM)], Wanted(60, 1))
     for _ in drawn_runs.run():
         pass
     own = results_of(drawn_runs).own("s")
@@ -66,8 +65,8 @@ def test_each_run_has_the_delay_that_is_a_square_of_its_demand(program, tmp_path
 
 def test_delays_that_are_a_square_of_the_demand_lie_as_on_paper(program, tmp_path, monkeypatch):
     """Of 2,000 draws, each of whose networks the program runs."""
-    monkeypatch.setattr("ctmtools.uncertainty.drawn_runs.here", chosen_of)
-    drawn_runs = DrawnRuns([written(tmp_path, GATE + UNIFORM)], 2000, 1)
+    monkeypatch.setattr("ctmtools.many_runs.workers.here", chosen_of)
+    drawn_runs = DrawnRuns([written(tmp_path, GATE + UNIFORM)], Wanted(2000, 1))
     assert sum(1 for _ in drawn_runs.run(jobs=1)) == 2000
     results = results_of(drawn_runs)
     own = results.own("s")
@@ -134,7 +133,7 @@ def test_a_cluster_that_loses_a_worker_gives_the_same_bytes(tool, program, tmp_p
             wait_until(lambda: done_by(cluster) == 40)
             kill_a_worker(cluster)
 
-        at_row(monkeypatch, KeptRows, 3, lose)
+        at_row(monkeypatch, KeptValues, 3, lose)
         status, out, err = tool("draw", path, "--runs", "40", "--dask", cluster.scheduler_address, "-o", "there")
     assert status == 0, err
     assert bytes_of(tmp_path / "here") == bytes_of(tmp_path / "there")
@@ -196,7 +195,7 @@ def test_queues_and_travel_times_of_the_example_are_those_on_paper(program, reco
     """In each draw of D vehicles/h: the queue reaches back (D - 4320)/144 km and clears D/4320 h and 10 min after 06:00, and
     the mean travel time over the road's 17.5 km is 11 min 40 s and (D - 4320)/8640 h."""
     kilometres = (6.0, 9.0, 12.0)
-    drawn_runs = DrawnRuns([STUDY], 30, 3, asked=Asked(places=tuple(f"m.{km:g}" for km in kilometres), routes=(("m.15", "off"),)))
+    drawn_runs = DrawnRuns([STUDY], Wanted(30, 3, asked=Asked(places=tuple(f"m.{km:g}" for km in kilometres), routes=(("m.15", "off"),))))
     for _ in drawn_runs.run():
         pass
     own = results_of(drawn_runs).own("uncertain")
@@ -223,14 +222,14 @@ def test_those_give_way_in_a_draw_who_do_in_a_run(tool, recording_program, tmp_p
 def test_an_incident_delays_as_a_closure_that_is_written(program, tmp_path):
     entry = '[[uncertain]]\nincidents = "m"\nrate = 100\nto = 10\nduration = "20 min"\nlanes = 2\nlength = "500 m"\n'
     path = written(tmp_path, STUDY.read_text() + entry)
-    drawn_runs = DrawnRuns([path, SHOULDER], 4, 1)
+    drawn_runs = DrawnRuns([path, SHOULDER], Wanted(4, 1))
     for _ in drawn_runs.run():
         pass
     frame = drawn_runs.frame()
     incidents = frame.pivot(index="draw", columns="plan", values="incidents")
     assert (incidents.s == incidents["uncertain-shoulder"]).all() and incidents.s.nunique() > 1
     row = frame[(frame.plan == "s") & (frame.incidents > 0)].iloc[0]
-    plan = read_study(path)
+    plan = read_study(path).scenario
     factor = drawn(drawn_runs.uncertainty, 1, row.draw)["demand"]
     for flow in plan.gates["on"].demand:
         flow.flow *= factor
@@ -306,8 +305,8 @@ def test_who_does_the_runs(tmp_path, monkeypatch, program, runs, jobs, address, 
         return done
 
     for name in ("here", "beside", "cluster"):
-        monkeypatch.setattr(f"ctmtools.uncertainty.drawn_runs.{name}", does(name))
-    assert not list(DrawnRuns([written(tmp_path, GATE + UNIFORM)], runs, 1).run(jobs, address)) and calls == [wanted]
+        monkeypatch.setattr(f"ctmtools.many_runs.workers.{name}", does(name))
+    assert not list(DrawnRuns([written(tmp_path, GATE + UNIFORM)], Wanted(runs, 1)).run(jobs, address)) and calls == [wanted]
 
 
 def test_the_picture_can_be_read(program):
@@ -320,7 +319,7 @@ def test_the_picture_can_be_read(program):
 
 
 def test_the_picture_rises_by_a_part_at_each_delay():
-    results = SimpleNamespace(succeeded={"s": numpy.array([5.0, 2.0, 3.0, 9.0])}, titles={"s": "s"}, title="s", count=4)
+    results = SimpleNamespace(delays_by_plan={"s": numpy.array([5.0, 2.0, 3.0, 9.0])}, titles={"s": "s"}, title="s", count=4)
     below = draws.draw(results).axes[1]
     rise = next(line for line in below.lines if len(line.get_xdata()) == 6)
     assert list(rise.get_xdata())[1:-1] == [2, 3, 5, 9] and list(rise.get_ydata()) == [0, 0.25, 0.5, 0.75, 1, 1]
@@ -333,7 +332,7 @@ def test_the_function_for_python_gives_what_the_command_writes(tool, program, tm
     paths = [written(tmp_path, GATE + UNIFORM), written(tmp_path, GATE.replace("capacity = 1200", "capacity = 1400"), "wide.toml")]
     results = draw(*paths, runs=6, jobs=2, queue_after=["07:20"])
     assert tool("draw", *paths, "--runs", "6", "-j", "1", "--queue-after", "07:20")[0] == 0
-    for made, name in ((results.draws, "draws"), (results.summary, "summary")):
+    for made, name in ((results.rows, "draws"), (results.summary, "summary")):
         pandas.testing.assert_frame_equal(made.replace("", numpy.nan), pandas.read_csv(f"s.draw/{name}.csv"), check_dtype=False)
     # 1,500 vehicles and a factor of them take an hour and more to pass: past 07:20 where it is above 1,600 of them.
     late = (1500 * results.own("s").demand > 1600).mean()

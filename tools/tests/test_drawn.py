@@ -6,11 +6,10 @@ import pytest
 from matplotlib.transforms import Bbox
 
 from ctmtools import Problem, build, read_study
-from ctmtools.plots import curves, delay, difference, figure, fundamental, labels, lines, network_map, queue, rates, roadside, sweep, time_space
-from ctmtools.plots.layout import _at, _between, _beyond, lay_out
-from ctmtools.plots.unplaced_joints import middles
+from ctmtools.plots import curves, delay, difference, figure, fundamental, labels, network_map, queue, rates, roadside, sweep, time_space
+from ctmtools.plots.layout import _at, _between, _beyond, lay_out, middles
 from ctmtools.report.queues import queues_in
-from ctmtools.report.states import DAY_ZERO
+from ctmtools.units import DAY_ZERO
 from ctmtools.units import Units
 
 from .corridor import corridor
@@ -191,12 +190,12 @@ def test_points_of_a_fundamental_diagram():
 def test_lines_over_a_diagram():
     axes = figure.figure()[1]
     report = light(step=10, start=21600)
-    handles = lines.draw_lines(axes, report, ["tail: 06:01 2, 06:02:30 0.5", "tail: 06:03 1, 06:04 2", "head: 06:00 0, 06:01 1"])
+    handles = time_space.draw_lines(axes, report, ["tail: 06:01 2, 06:02:30 0.5", "tail: 06:03 1, 06:04 2", "head: 06:00 0, 06:01 1"])
     assert [list(line.get_xdata()) for line in axes.lines] == [[21660, 21750], [21780, 21840], [21600, 21660]]
     assert list(axes.lines[0].get_ydata()) == [2, 0.5] and [handle.get_label() for handle in handles] == ["tail", "head"]
     for wrong in ("tail", "tail: 06:01 2", "tail: 06:01 2 3, 06:02 1", "tail: 06:01 x, 06:02 1"):
         with pytest.raises(Problem, match="--line"):
-            lines.draw_lines(axes, report, [wrong])
+            time_space.draw_lines(axes, report, [wrong])
 
 
 def test_times_of_pictures():
@@ -283,7 +282,7 @@ def test_points_along_a_line_are_close_together():
 
 
 def test_the_first_day_of_times_without_a_date():
-    assert DAY_ZERO == pandas.Timestamp("1900-01-01")
+    assert pandas.Timestamp(DAY_ZERO) == pandas.Timestamp("1900-01-01")
 
 
 @pytest.mark.parametrize("values, shown", [(["1.1", "0.9", "1"], [0.9, 1, 1.1]), (["c", "a", "b"], ["a", "b", "c"])])

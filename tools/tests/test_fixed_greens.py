@@ -9,7 +9,7 @@ import pytest
 from ctmtools import read_study
 from ctmtools.pages.tables import greens_of
 from ctmtools.report.reading import read_report
-from ctmtools.running import opened
+from ctmtools.runs.running import opened
 from ctmtools.study.network_text import build
 from ctmtools.yielding.control_delay import at_signal
 from ctmtools.yielding.fixed_greens import waits_at_greens
@@ -90,12 +90,14 @@ def test_where_a_queue_stands_nothing_is_lost_beside_it(tmp_path, recording_prog
     assert one.full == pytest.approx(1500) and one.vehicles == pytest.approx(218.75 + 69.58, abs=0.01)
 
 
-def test_lanes_closed_at_the_stop_line_leave_less(tmp_path, recording_program):
-    # A capacity of 1,440 for the hour leaves 720 in greens: x = 0.625, 225·(-0.375 + sqrt(0.140625 + 0.0138889)) = 4.067 s.
-    closed = '[[closures]]\nroad = "street"\nfrom = 0.2\nto = 0.3\nstart = "07:00"\nend = "08:00"\ncapacity = 1440\n'
-    one, = lost(tmp_path, STOP_LINE.format(demand=450, more=closed))
+@pytest.mark.parametrize("lanes, wanted", [(1, 4.067), (2, 2.058)])
+def test_lanes_closed_at_the_stop_line_leave_less(tmp_path, recording_program, lanes, wanted):
+    # A capacity of 1,440 a lane for the hour leaves 720 in greens: x = 0.625. On one lane 225·(-0.375 + sqrt(0.140625 + 0.0138889)) =
+    # 4.067 s, on two 225·(-0.375 + sqrt(0.140625 + 0.0069444)) = 2.058 s.
+    closed = f'[[closures]]\nroad = "street"\nfrom = 0.2\nto = 0.3\nstart = "07:00"\nend = "08:00"\ncapacity = {1440 * lanes}\n'
+    one, = lost(tmp_path, STOP_LINE.replace("lanes = 1", f"lanes = {lanes}").format(demand=450 * lanes, more=closed))
     assert one.part == pytest.approx(0.625, abs=0.01)
-    assert 3600 * one.hours / one.vehicles == pytest.approx(4.067, rel=0.03)
+    assert 3600 * one.hours / one.vehicles == pytest.approx(wanted, rel=0.03)
 
 
 LANE_GROUPS = {  # the lanes of the approach and of its movements, how they are green, and the groups with their lanes
@@ -110,7 +112,7 @@ LANE_GROUPS = {  # the lanes of the approach and of its movements, how they are 
 
 @pytest.mark.parametrize("lanes, table, more, wanted", LANE_GROUPS.values(), ids=LANE_GROUPS.keys())
 def test_who_share_lanes_and_a_green_are_one_group(tmp_path, lanes, table, more, wanted):
-    study = read_study(write(tmp_path, APPROACH.format(lanes=lanes, table=table, more=more)))
+    study = read_study(write(tmp_path, APPROACH.format(lanes=lanes, table=table, more=more))).scenario
     built = build(study)
     found = {one.name: one for one in lane_groups(study, built.network, built.units)}
     assert {name: one.saturation / 1800 for name, one in found.items()} == {
@@ -118,7 +120,7 @@ def test_who_share_lanes_and_a_green_are_one_group(tmp_path, lanes, table, more,
 
 
 def test_who_gives_way_adds_to_what_comes_to_a_shared_lane_and_is_told_elsewhere(tmp_path):
-    study = read_study(write(tmp_path, APPROACH.format(lanes=1, table="[1, 1, 1]", more=PERMITTED)))
+    study = read_study(write(tmp_path, APPROACH.format(lanes=1, table="[1, 1, 1]", more=PERMITTED))).scenario
     built = build(study)
     shared = lane_groups(study, built.network, built.units)[0]
     assert (shared.line, shared.cells, shared.all_cells) == ("s7", ["s-east1", "s-ahead1"], ["s-east1", "s-ahead1", "s-west1"])
@@ -126,7 +128,7 @@ def test_who_gives_way_adds_to_what_comes_to_a_shared_lane_and_is_told_elsewhere
 
 def test_greens_that_follow_traffic_and_signals_for_a_time_are_no_fixed_greens(tmp_path):
     timed = STOP_LINE.format(demand=450, more='start = "07:10"')
-    study = read_study(write(tmp_path, timed))
+    study = read_study(write(tmp_path, timed)).scenario
     built = build(study)
     assert not lane_groups(study, built.network, built.units)
 
@@ -213,3 +215,15 @@ def test_two_reports_compared_tell_what_each_loses_at_random(left_turn, tool):
 def test_what_is_not_known_is_not_compared(left_turn, tool):
     assert tool("run", "study.toml", "--every", "0", "-o", "bare.report")[0] == 0
     assert "at random" not in tool("compare", "study.report", "bare.report")[1]
+
+
+def test_lanes_that_pass_more_than_the_manual_has_for_them_are_told(tmp_path, tool, recording_program):
+    # Of two lanes one is of those who turn west, who give way, so east and ahead share the other: in 30 s of 60 it passes 900. Of
+    # 1,100 who come 12/13 are theirs, 1,015.4, and pass each from a lane of his own, which is 113 % of that.
+    text = APPROACH.format(lanes=2, table="[1, 1, 1]", more=PERMITTED).replace("shares = [[1, 6, 1]", "shares = [[6, 6, 1]")
+    text = text.replace('into = "s", demand = 400', 'into = "s", demand = 1100').replace('into = "n", demand = 400', 'into = "n", demand = 60')
+    write(tmp_path, text)
+    out = tool("run", "study.toml")[1]
+    assert "junctions[1], s to east, ahead: 113% pass of what may by the Highway Capacity Manual, so its queue is too short\n" in out
+    write(tmp_path, text.replace("demand = 1100", "demand = 900"))
+    assert "its queue is too short" not in tool("run", "study.toml")[1]

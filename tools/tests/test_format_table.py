@@ -4,17 +4,17 @@ import re
 
 import pytest
 
-from ctmtools.amounts import PARTS
+from ctmtools.texts.amounts import PARTS
 from ctmtools.network_file.faults import first_fault
-from ctmtools.network_file.kinds import COUNTED, KINDS, MOST_RECORDS, headings, kinds_of, record_text
+from ctmtools.network_file.kinds import COUNTED, KINDS, MOST_RECORDS, Record, headings, kinds_of, record_of
 from ctmtools.network_file.network import clipped, network_of, fault_line
 from ctmtools.network_file.records import read_records
-from ctmtools.study.network_text import _is_large
+from ctmtools.study.network_text import form_of
 
 from .examples import TOOLS
 
 FORMAT = (TOOLS.parent / "docs/FORMAT.md").read_text()
-ROW = re.compile(r"\| `(?P<kind>\w+)`(?P<form>, in format [23])? \| (?P<terms>[^|]*) \| (?P<count>\d) \| `(?P<example>[^`]*)` \|")
+ROW = re.compile(r"\| `(?P<kind>\w+)`(?P<form>, from format 2 on|, in format 3)? \| (?P<terms>[^|]*) \| (?P<count>\d) \| `(?P<example>[^`]*)` \|")
 ROWS = {found["kind"]: found for found in map(ROW.fullmatch, FORMAT.splitlines()) if found}
 EXAMPLE = ("ctm,3", "steps,9", "gate,g,18,2.5", "road,a,108,12,1,5,7.25", "road,b,60.5,9,2,3,0", "road,c,60,9,1,1,0", "exit,x,12.5", "exit,y,3",
            "link,g,a", "diverge,a,b,c,3,4", "merge,b,c,x,5,6", "signal,a,8,7,2,5", "limit,b,1,4,2.5", "demand,g,0,3,1.25", "turn,a,2,5,8,9",
@@ -59,7 +59,7 @@ def test_the_names_and_edges_of_fields_are_those_of_the_table(kind):
 @pytest.mark.parametrize("kind", KINDS)
 def test_a_record_is_written_as_it_is_read(kind):
     example = ROWS[kind]["example"]
-    assert record_text(kind, *KINDS[kind].values(tuple(example.split(",")[1:])).values()) == example
+    assert record_of(example).kind == kind and record_of(example).text == example
 
 
 def test_so_many_records_are_counted_as_the_table_of_formats_says():
@@ -140,4 +140,4 @@ def test_a_long_field_is_clipped():
 
 @pytest.mark.parametrize("kind", ["road", "link", "limit", "demand"])
 def test_a_network_of_more_records_than_format_1_has_is_of_format_2(kind):
-    assert not _is_large(f"{kind},{i}" for i in range(100_000)) and _is_large(f"{kind},{i}" for i in range(100_001))
+    assert form_of([Record(kind, ())] * 100_000) == 1 and form_of([Record(kind, ())] * 100_001) == 2

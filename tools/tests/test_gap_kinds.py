@@ -48,7 +48,7 @@ def test_the_page_has_the_gaps_of_the_manual():
     ('critical_gap = 5, follow_up = 3', "5", "3", "5")])
 def test_the_gaps_of_a_movement_of_a_study(tmp_path, terms, critical, follow_up, stage):
     more = f'yields = [{{ movement = ["e", "y"], yields_to = [["n", "x"], ["s", "y"]], {terms} }}]'
-    (one,) = read_study(write(tmp_path, CROSSING.format(more=more))).yields
+    (one,) = read_study(write(tmp_path, CROSSING.format(more=more))).scenario.yields
     assert (one.gaps.critical, one.gaps.follow_up) == (Fraction(critical), Fraction(follow_up))
     assert (one.stage or one.gaps).critical == Fraction(stage)
 
@@ -58,5 +58,5 @@ def test_the_gaps_of_a_movement_of_a_study(tmp_path, terms, critical, follow_up,
 def test_who_comes_out_of_a_side_street_stops_and_others_give_way(tmp_path, kind, gives_way):
     for control, wanted in ("", gives_way), (', control = "stop"', False), (', control = "give_way"', True):
         more = f'yields = [{{ movement = ["s", "y"], yields_to = [["n", "x"]], kind = "{kind}"{control} }}]'
-        (one,) = read_study(write(tmp_path, CROSSING.format(more=more))).yields
+        (one,) = read_study(write(tmp_path, CROSSING.format(more=more))).scenario.yields
         assert one.gaps.give_way == wanted

@@ -8,7 +8,7 @@ import pytest
 from ctmtools.study.gap_kinds import KINDS
 from ctmtools.study.plan import Gaps, Permission
 from ctmtools.yielding.gaps import harders, in_two_stages, passing, siegloch
-from ctmtools.yielding.permitted import Opposing, PermittedGreen, in_span
+from ctmtools.yielding.permitted import InLane, Opposing, PermittedGreen, in_span
 
 
 @pytest.mark.parametrize("priority, passes", [(300, 744.3), (600, 504.6), (900, 340.0), (1200, 227.7)])
@@ -26,7 +26,7 @@ def test_an_entry_of_a_roundabout_is_that_of_the_manual(circulating, passes):
 
 @pytest.mark.parametrize("opposing, passes", [(400, 1000.3), (800, 690.5)])
 def test_a_permitted_left_turn_beside_a_queue_that_is_gone(opposing, passes):
-    # 400·exp(-0.5)/(1 - exp(-0.27778)) = 400·0.60653/0.24254.
+    # 400·exp(-0.5)/(1 - exp(-0.27778)) = 400·0.60653/0.24253.
     kind = KINDS["permitted-left"]
     assert harders(opposing, float(kind.critical[2]), float(kind.follow_up[2])) == pytest.approx(passes, abs=0.1)
 
@@ -48,6 +48,18 @@ def test_nobody_turns_while_the_queue_of_those_who_come_towards_clears():
     one = SimpleNamespace(gaps=Gaps(Fraction(9, 2), Fraction(5, 2), "harders"))
     green = PermittedGreen(one, Permission(60, 0, (0, 30), [(0, 30)], 0), 2, 1800)
     assert green.rates([Opposing((0, 30), 600, 600, 1800)]).tolist()[:15] == [0] * 7 + [pytest.approx(415.9, abs=0.1)] + [pytest.approx(831.7, abs=0.1)] * 7
+
+
+@pytest.mark.parametrize("part, passes", [(1, 1800), (0.5, 1800)])
+def test_where_nobody_comes_towards_a_left_turn_its_lane_passes_as_in_any_green(part, passes):
+    one = SimpleNamespace(gaps=Gaps(Fraction(9, 2), Fraction(5, 2), "harders", True))
+    green = PermittedGreen(one, Permission(60, 0, (0, 30), [(0, 30)], 2), 2, 1800)
+    assert (green.rates([], InLane(part, 2)) / part).tolist()[:15] == [pytest.approx(passes)] * 15
+
+
+def test_the_first_of_a_lane_who_turns_comes_as_the_manual_has_it():
+    # Of 2 in a cycle the first after 30·exp(-0.860·2^0.629) - 2 = 30·exp(-1.32998) - 2 s; from a lane of their own at once.
+    assert InLane(0.25, 2).freely(30) == pytest.approx(5.934, abs=0.001) and InLane().freely(30) == 0 == InLane(0.5, 40).freely(30)
 
 
 @pytest.mark.parametrize("time, within", [(49, False), (50, True), (5, True), (65, True), (10, False), (20, False)])

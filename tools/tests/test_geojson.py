@@ -26,7 +26,7 @@ def test_a_line_for_each_cell_along_the_points(tmp_path):
     assert {key: rows["m2"]["properties"][key] for key in ("kind", "road", "from_km", "to_km", "lanes")} == \
         {"kind": "road", "road": "m", "from_km": 0.25, "to_km": 0.5, "lanes": 2}
     # 1,000 come in the hour, of whom those of the last three steps stand in the gate, in m1 and in m2 at its end.
-    assert rows["m2"]["properties"]["gone"] == pytest.approx(1000 - 30 * 1000 / 3600, abs=0.01)
+    assert rows["m2"]["properties"]["left"] == pytest.approx(1000 - 30 * 1000 / 3600, abs=0.01)
 
 
 def test_by_quarter_of_an_hour(tmp_path):

@@ -7,13 +7,12 @@ from types import SimpleNamespace
 import pytest
 
 from ctmtools import build, read_study
-from ctmtools.imports import sumolib_net
 from ctmtools.imports.gmns import read_folder
 from ctmtools.imports.giving_way import GivesWay
 from ctmtools.imports.streets import LEFT, RIGHT, THROUGH
 from ctmtools.imports.sumo import read_network
 from ctmtools.imports.turning import turn_of
-from ctmtools.running import settled_by_runs
+from ctmtools.runs.running import settled_by_runs
 
 from .test_gmns import TABLES
 
@@ -96,16 +95,16 @@ def test_a_left_turn_and_a_side_street_give_way_by_the_gaps_of_their_kind(import
         ("w", "n"): {"yields_to": [["e", "o"]], "kind": "major-left"},
         ("s", "p"): {"yields_to": [["e", "o"], ["w", "p"]], "kind": "minor-right", "control": "give_way"}}
     # The study is built as it stands.
-    assert len(read_study("n.toml").yields) == 2 and build(read_study("n.toml")).text
+    assert len(read_study("n.toml").scenario.yields) == 2 and build(read_study("n.toml")).text
 
 
 def test_what_passes_of_them_is_that_of_the_formula(import_net, recording_program):
     import_net()
-    found = settled_by_runs(read_study("n.toml"))
+    found = settled_by_runs(read_study("n.toml").scenario)
     # Through 300 vehicles/h: 300·exp(-300·4.1/3600)/(1 - exp(-300·2.2/3600)) turn left, 300·exp(-300·6.2/3600)/(1 -
-    # exp(-300·3.3/3600)) come out of the side street.
+    # exp(-300·3.3/3600)) come out of the side street. The left turn, 1,272.8, shares its lane: 90/(90/1,272.8 + 300/1,800).
     names = {one.road: next(float(each.flow) for each in one.capacities if each.start < 3000 < each.end) for one in found.study.yields}
-    assert names == {"w-n": pytest.approx(1272.8, rel=0.01), "s-p": pytest.approx(744.3, rel=0.01)}
+    assert names == {"w-n": pytest.approx(379.1, rel=0.01), "s-p": pytest.approx(744.3, rel=0.01)}
 
 
 @pytest.mark.parametrize("terms, wanted", [
@@ -120,10 +119,10 @@ def test_signs_turns_and_roundabouts_say_the_kind(import_net, terms, wanted):
 
 
 def test_an_entry_into_two_lanes_or_more_of_a_roundabout_has_the_gaps_of_those():
-    one, two, three = ("\n".join(GivesWay({}, "roundabout", 2, 4, False, lanes).terms()) for lanes in (1, 2, 3))
-    assert one == 'kind = "roundabout"' and two == three
+    one, two, three = (GivesWay({}, "roundabout", 2, 4, False, lanes).terms() for lanes in (1, 2, 3))
+    assert one == {"kind": "roundabout"} and two == three
     # By Siegloch 3600/f·exp(-(c - f/2)·v/3600) pass, which the manual has as 1,420·exp(-0.00085·v) (2016, chapter 22).
-    critical, follow_up = (tomllib.loads(two)[key] for key in ("critical_gap", "follow_up"))
+    critical, follow_up = (float(two[key]) for key in ("critical_gap", "follow_up"))
     assert (3600 / follow_up, (critical - follow_up / 2) / 3600) == pytest.approx((1420, 0.00085), rel=1e-3)
 
 
@@ -206,7 +205,7 @@ def test_a_green_without_priority_is_permitted_in_its_phase(import_net):
         {"start": 0, "green": 30, "movements": [["w", "n"], ["w", "p"], ["e", "o"]], "permitted": [["w", "n"]]},
         {"start": 30, "green": 30, "movements": [["w", "n"], ["s", "p"]]}]
     assert yields_of(junction) == {("w", "n"): {"yields_to": [["e", "o"]], "kind": "permitted-left"}}
-    (one,) = read_study("n.toml").yields
+    (one,) = read_study("n.toml").scenario.yields
     assert one.permission.permitted == [(0, 30)]
 
 
@@ -223,7 +222,7 @@ def test_greens_between_a_least_and_a_most_follow_traffic(import_net):
     assert junction["phases"] == [
         {"start": 0, "green": 30, "movements": [["w", "n"], ["w", "p"], ["e", "o"]], "actuated": {"least": 5, "most": 45, "gap": 3}},
         {"start": 30, "green": 30, "movements": [["s", "p"]]}]
-    assert "1 signals follow traffic, each green between its least and its most" in out and len(read_study("n.toml").actuated) == 1
+    assert "1 signals follow traffic, each green between its least and its most" in out and len(read_study("n.toml").scenario.actuated) == 1
 
 
 def test_a_street_alone_at_a_signal_follows_traffic_too(import_net):
@@ -231,7 +230,7 @@ def test_a_street_alone_at_a_signal_follows_traffic_too(import_net):
     (signal,) = study()["signals"]
     # A green lasts a second or more, and an hour at most.
     assert signal["actuated"] == {"least": 1, "most": 3600, "gap": 3} and "1 signals follow traffic" in out
-    assert len(read_study("n.toml").actuated) == 1
+    assert len(read_study("n.toml").scenario.actuated) == 1
 
 
 @pytest.mark.parametrize("phases, why", [
@@ -248,16 +247,11 @@ def test_a_signal_of_another_sort_keeps_its_greens(import_net):
     assert "1 signals follow traffic otherwise than by a least and a most of their greens (J); the lengths of their phases are" in out
 
 
-# In the full check no case may be skipped: where sumolib isn't there, this is none.
-if sumolib_net.is_there():
-    def test_sumolib_reads_the_same_of_giving_way(import_net, tmp_path, monkeypatch):
-        import_net("GgGr", "rrrG", logic="actuated", limits='minDur="5"', more='<roundabout nodes="J" edges="w p"/>')
-        (tmp_path / "n.net.xml").write_text((tmp_path / "n.net.xml").read_text().replace("<net>", '<net lefthand="true">'))
-        by_library = read_network(tmp_path / "n.net.xml")
-        monkeypatch.setattr(sumolib_net, "is_there", lambda: False)
-        by_text = read_network(tmp_path / "n.net.xml")
-        assert by_library.ways == by_text.ways and by_library.programs == by_text.programs
-        assert by_text.ways["s", "p"].ring == 1 and by_text.programs["J"].stages
+def test_a_ring_and_a_net_on_the_left_with_a_signal_that_follows_traffic(import_net, tmp_path):
+    import_net("GgGr", "rrrG", logic="actuated", limits='minDur="5"', more='<roundabout nodes="J" edges="w p"/>')
+    (tmp_path / "n.net.xml").write_text((tmp_path / "n.net.xml").read_text().replace("<net>", '<net lefthand="true">'))
+    found = read_network(tmp_path / "n.net.xml")
+    assert found.ways["s", "p"].ring == 1 and found.programs["J"].stages
 
 
 def gmns(tool, tmp_path, tables):
@@ -292,6 +286,29 @@ def test_a_node_of_gmns_at_which_all_stop_is_told(tool, tmp_path):
     assert f"3 {UNOPPOSED}at an all-way stop nobody has priority: a to c, a to d, b to c\n" in out
     _, out, _ = gmns(tool, tmp_path, {**UNSIGNALLED, "node": node.replace("stop_4_way", "stop_2_way"), "movement": movement})
     assert "1 nodes have a ctrl_type, as stop_2_way, and no movement that says who gives way: 2\n" in out
+
+
+UNTIMED = "1 nodes have ctrl_type signal and no times of one, so all movements are green at all times and the delay is too low: 2\n"
+
+
+def node_with(control):
+    return re.sub(r"$", ",", TABLES["node"], flags=re.MULTILINE).replace("y_coord,", "y_coord,ctrl_type").replace("2,1609,0,", f"2,1609,0,{control}")
+
+
+@pytest.mark.parametrize("tables, told", [
+    ({**UNSIGNALLED, "node": node_with("signal")}, True), (UNSIGNALLED, True), (TABLES, False),
+    ({**UNSIGNALLED, "movement": TABLES["movement"].replace("signal", "")}, False),
+    ({**{name: text for name, text in UNSIGNALLED.items() if name != "movement"}, "node": node_with("Signal")}, True)])
+def test_a_signal_of_gmns_without_times_is_told(tool, tmp_path, tables, told):
+    status, out, _ = gmns(tool, tmp_path, tables)
+    assert status == 0 and (UNTIMED in out) == told
+
+
+@pytest.mark.parametrize("control", ["stop", "yield", "stop_4_way"])
+def test_a_node_of_gmns_without_movements_does_not_lose_its_control_without_a_word(tool, tmp_path, control):
+    tables = {name: text for name, text in UNSIGNALLED.items() if name != "movement"}
+    _, out, _ = gmns(tool, tmp_path, {**tables, "node": node_with(control)})
+    assert f"1 nodes have a ctrl_type, as {control}, and no movement that says who gives way: 2\n" in out
 
 
 def test_a_node_of_gmns_where_nobody_has_priority_is_told(tool, tmp_path):

@@ -67,7 +67,7 @@ def test_speeds_of_working_days_are_speed_limits(tool, folder):
     status, out, err = tool("import", "gmns", folder, "-o", "town.toml", "--start", "05:30", "--until", "17 h")
     assert status == 0
     assert [(limit.part.road, limit.part.start / 3600, limit.part.end / 3600, float(limit.speed)) for limit in
-            read_study("town.toml").speed_limits] == [("a", 0.5, 3.5, pytest.approx(48.28032)), ("c", 16.5, 17, pytest.approx(32.18688))]
+            read_study("town.toml").scenario.speed_limits] == [("a", 0.5, 3.5, pytest.approx(48.28032)), ("c", 16.5, 17, pytest.approx(32.18688))]
     for note in ("link_tod.csv: 2 speeds by time at links c, b are left out; of links those are kept that hold from Monday to Friday and are "
                  "below the link's own", "segment_tod.csv: 1 speeds by time are left out; of links those are kept that hold from Monday to Friday and "
                  "are below the link's own", "link_tod.csv: 1 rows with lanes by time are left out", "link_tod.csv: 1 rows with capacity by time are "
@@ -129,6 +129,9 @@ def test_a_link_that_is_not_directed_makes_two_streets(folder):
     ("config", "long_length\nfurlong\n", "long_length: expected km or"),
     ("link", TABLES["link"].replace("a,1,2,1,1,45", "a,1,2,1,x,45"), 'length: expected a number of 0 or more, found "x"'),
     ("link", TABLES["link"].replace("a,1,2,1,1,45,2", "a,1,2,1,1,45,0"), "link a: lanes, free_speed and length must be above 0"),
+    # Without a crs the way between the nodes isn't known in km, and the length is all that there is.
+    ("link", TABLES["link"].replace("a,1,2,1,1,45,2", "a,1,2,1,0,45,2"), "link a: lanes, free_speed and length must be above 0"),
+    ("link", TABLES["link"].replace("a,1,2,1,1,45,2", "a,1,2,1,1,0,2"), "link a: lanes, free_speed and length must be above 0"),
     ("demand", "link_id,flow\nz,5\n", "demand.csv: has no column start"),
     ("demand", DEMAND.format("z,0,1800,5"), "demand.csv: line 3, link_id: there is no link z"),
     ("demand", DEMAND.format("e,0,1800,5"), "demand.csv: line 3, link_id: cars may not use link e"),
@@ -137,6 +140,10 @@ def test_a_link_that_is_not_directed_makes_two_streets(folder):
     ("demand", DEMAND.format("a,0,1800,-5"), 'demand.csv: line 3, flow: expected a number of 0 or more, found "-5"'),
     ("demand", DEMAND.format("a,1800,0,5"), "demand.csv: line 3, end: expected a time after the start at 1800 s, found 0"),
     ("demand", DEMAND.format("a,0,1800,1,050"), "demand.csv: line 3 has 5 fields, and line 1 has 4"),
+    pytest.param("demand", DEMAND.format("a,0,1800,5" + "," * 9997), "demand.csv: line 3 has 10,001 fields; a row may have 10,000",
+                 id="many fields"),
+    pytest.param("link", "x" + ",x" * 99 + "\n", "has no column link_id, it has x, x, x, x, x, x, x, x, x, x, x, x and 88 more",
+                 id="many columns"),
     ("link", TABLES["link"] + "a,1,2,1,1,45,2,1500,auto\n", "link.csv: line 7, link_id: a stands in line 2 too"),
     ("link", TABLES["link"] + ",1,2,1,1,45,2,1500,auto\n", "link.csv: line 7, link_id: is empty"),
     ("link", TABLES["link"] + "f,1,9,1,1,45,2,1500,auto\n", "link.csv: line 7, to_node_id: there is no node 9"),

@@ -1,17 +1,19 @@
 """Networks of SUMO as studies: streets, lanes for cars, junctions, signals, and traffic by its routes, worked out on paper."""
 
+import subprocess
 from fractions import Fraction
+from importlib.util import find_spec
 from math import inf
 
 import plain_model
 import pytest
 
 from ctmtools import Problem, build, read_study
-from ctmtools.commands.importing import seconds
-from ctmtools.imports import sumo_net, sumolib_net
+from ctmtools.imports.importing import seconds
 from ctmtools.imports.sumo import joined, read_network, streets_of
 from ctmtools.imports.speed_limits import RoadLimit, limits_on
 from ctmtools.imports.streets import SpeedSpan, Street
+from ctmtools.imports.sumo_net import CAR, read_net
 from ctmtools.imports.sumo_trips import read_trips
 from ctmtools.report.reading import report_of
 
@@ -199,7 +201,7 @@ def test_a_merge_a_diverge_and_a_link_have_no_cells_of_their_own(tool, files):
 def test_without_routes_shares_are_by_lanes(tool, files):
     out = tool("import", "sumo", "town.net.xml", "-o", "town.toml")[1]
     assert out.startswith("town.toml: 6 streets, 1 signals, 0 vehicles")
-    study = read_study("town.toml")
+    study = read_study("town.toml").scenario
     assert sorted(study.gates) == ["in-a", "in-b"] and sorted(study.exits) == ["out-c", "out-d"]
     assert study.crossings[0].shares[0] == [50, 50] and not study.gates["in-a"].demand
 
@@ -239,7 +241,7 @@ SIGNS = """<additional>
 def limits_in(path):
     """The speed limits of a study: road, from and to in km, from and to in s, and km/h."""
     return [(limit.part.road, limit.part.start_km, limit.part.end_km, limit.part.start, limit.part.end, limit.speed)
-            for limit in read_study(path).speed_limits]
+            for limit in read_study(path).scenario.speed_limits]
 
 
 def test_variable_speed_signs_are_speed_limits(tool, files):
@@ -302,12 +304,10 @@ UTM = "+proj=utm +zone=33 +ellps=WGS84 +datum=WGS84 +units=m +no_defs"
 OWN = "+proj=tmerc +lat_0=0 +lon_0=15 +k=0.9996 +x_0=400000 +y_0=0 +ellps=GRS80 +units=m"  # which has no code
 
 
-@pytest.mark.parametrize("there", sorted({False, sumolib_net.is_there()}))
 @pytest.mark.parametrize("projection, crs, point", [
     (UTM, "EPSG:32633", (391440.03, 5820079.67)), (OWN, "EPSG:4326", (14.873813, 52.530748)),  # by Krueger's series
     ("!", None, (-0.25, 0))])
-def test_streets_lie_where_the_projection_has_them(tool, files, monkeypatch, there, projection, crs, point):
-    monkeypatch.setattr(sumolib_net, "is_there", lambda: there)
+def test_streets_lie_where_the_projection_has_them(tool, files, projection, crs, point):
     location = f'<location netOffset="-391690.03,-5820079.67" convBoundary="0,0,1,1" origBoundary="0,0,1,1" projParameter="{projection}"/>'
     (files / "town.net.xml").write_text(net().replace('<net version="1.9">', f'<net version="1.9">{location}'))
     found = read_network(files / "town.net.xml")
@@ -319,39 +319,72 @@ def test_a_file_of_routes_may_have_speed_signs(tool, files):
     assert tool("import", "sumo", "town.net.xml", "--routes", "town.rou.xml", "-o", "town.toml")[0] == 0 and len(limits_in("town.toml")) == 2
 
 
-def test_a_network_that_sumolib_can_not_read_is_read_by_its_xml(files):
+def test_a_junction_that_does_not_say_its_lanes_is_read(files):
     (files / "town.net.xml").write_text(net().replace(' incLanes="c_0"', ""))
-    assert sumolib_net.read(files / "town.net.xml") is None and len(read_network(files / "town.net.xml").streets) == 6
+    assert len(read_network(files / "town.net.xml").streets) == 6
 
 
-def canonical(found):
-    """A network whatever the order of its connections and of its signals."""
-    return (found.name, found.edges, sorted(found.links, key=repr), sorted(found.logics, key=repr), found.nodes, found.roundabouts,
-            found.ring_nodes, found.on_the_left, found.location)
+def by_ours(found):
+    """What the tools read of a network: its streets for cars, who leads where with which signal, the signals, and the rings."""
+    cars = {(edge.name, lane.index) for edge in found.edges for lane in edge.lanes if CAR in lane.classes}
+    return ({edge.name: (edge.start, edge.end, [(lane.index, lane.length, lane.speed) for lane in edge.lanes if CAR in lane.classes],
+                         edge.shape) for edge in found.edges},
+            {(link.source, link.lane, link.into, link.signal, link.index, link.state, link.turn) for link in found.links
+             if (link.source, link.lane) in cars},
+            {logic.name: [(phase.lasting, phase.state) for phase in logic.phases] for logic in found.logics},
+            {name: (node.place, node.sort) for name, node in found.nodes.items()}, found.roundabouts, found.ring_nodes)
 
 
-# The tools can do without sumolib, and in the full check no case may be skipped: where it isn't there, these are none.
-if sumolib_net.is_there():
+def by_sumolib(path):
+    """The same by SUMO's own library."""
+    import sumolib
+
+    found = sumolib.net.readNet(str(path), withPrograms=True)
+    edges = [edge for edge in found.getEdges() if edge.getFunction() in ("", "normal")]
+    links = [link for edge in edges for lane in edge.getLanes() for link in lane.getOutgoing() if lane.allows(CAR)]
+    return ({edge.getID(): (edge.getFromNode().getID(), edge.getToNode().getID(),
+                            [(lane.getIndex(), lane.getLength(), lane.getSpeed()) for lane in edge.getLanes() if lane.allows(CAR)],
+                            [place[:2] for place in edge.getRawShape()]) for edge in edges},
+            {(link.getFrom().getID(), link.getFromLane().getIndex(), link.getTo().getID(), link.getTLSID(), max(0, link.getTLLinkIndex()),
+              link.getState(), link.getDirection()) for link in links},
+            {signal.getID(): [(phase.duration, phase.state) for phase in program.getPhases()] for signal in found.getTrafficLights()
+             for program in signal.getPrograms().values()},
+            {node.getID(): (node.getCoord()[:2], node.getType()) for node in found.getNodes()},
+            [frozenset(ring.getEdges()) for ring in found.getRoundabouts()], [list(ring.getNodes()) for ring in found.getRoundabouts()])
+
+
+# In the full check no case may be skipped: where SUMO isn't there, these are none.
+if find_spec("sumolib"):
     @pytest.mark.parametrize("kind", ["static", "actuated"])
-    def test_sumolib_reads_what_the_xml_says(files, kind):
+    def test_sumo_reads_its_network_alike(files, kind):
         path = files / "town.net.xml"
-        path.write_text(net(kind))
-        one, two = sumo_net.read(path), sumolib_net.read(path)
-        assert canonical(one) == canonical(two) and streets_of(one, "n") == streets_of(two, "n") == read_network(path)
+        path.write_text(net(kind).replace("</net>", '<roundabout nodes="C J" edges="c d"/></net>'))
+        assert by_ours(read_net(path)) == by_sumolib(path)
+
+    def test_sumo_reads_a_grid_of_its_own_alike(tmp_path):
+        path = tmp_path / "grid.net.xml"
+        subprocess.run(["netgenerate", "--grid", "--grid.number", "4", "--default.lanenumber", "2", "--tls.guess", "--output-file", path],
+                       check=True, capture_output=True)
+        ours = by_ours(read_net(path))
+        assert ours == by_sumolib(path) and len(ours[0]) == 48 and ours[2]
 
 
-@pytest.mark.parametrize("there", sorted({False, sumolib_net.is_there()}))
-def test_the_study_is_the_same_with_sumolib_and_without(tool, files, monkeypatch, there):
-    monkeypatch.setattr(sumolib_net, "is_there", lambda: there)
-    assert (sumolib_net.read(files / "town.net.xml") is not None) == there
+def test_a_ring_that_no_one_enters_with_priority_changes_no_demand(tool, files):
     (files / "roundabout.net.xml").write_text(net().replace("</net>", '<roundabout nodes="C J" edges="c d"/></net>'))
     status, out, err = tool("import", "sumo", "roundabout.net.xml", "--routes", "town.rou.xml", "-o", "town.toml")
     assert status == 0 and out.startswith("town.toml: 5 streets, 1 signals, 632 vehicles")
     assert tool("import", "sumo", "town.net.xml", "--routes", "town.rou.xml", "-o", "plain.toml")[0] == 0
     assert build(read_study("town.toml")).text.split("\n", 1)[1] == build(read_study("plain.toml")).text.split("\n", 1)[1]
-    for text, wanted in (("<net>", "no XML"), ("<routes/>", "expected <net>, found <routes>")):
-        (files / "x.net.xml").write_text(text)
-        assert wanted in tool("import", "sumo", "x.net.xml")[2]
+
+
+@pytest.mark.parametrize("text, told", [
+    ("<net>", "x.net.xml: no XML: no element found: line 1, column 5"), ("<routes/>", "x.net.xml: expected <net>, found <routes>"),
+    ('<net><edge id="a" from="A" to="B"><lane index="0" length="long"/></edge></net>',
+     "x.net.xml: expected a number: could not convert string to float: 'long'"),
+    ('<net><location netOffset="1" projParameter="+proj=utm"/></net>', "x.net.xml: expected a number: ")])
+def test_a_file_that_is_no_network_is_refused_with_its_cause(tool, files, text, told):
+    (files / "x.net.xml").write_text(text)
+    assert f"ctm-tools: {told}" in tool("import", "sumo", "x.net.xml")[2]
 
 
 def test_the_least_length_of_time_is_taken():

@@ -405,7 +405,7 @@ def test_a_way_past_nodes_that_are_not_in_the_file(tmp_path):
 
 def test_from_python(tmp_path):
     study = import_osm(TOWN, tmp_path / "town.toml", roads="motorway", until="2 h")
-    assert study.title == "town" and study.duration == 9000
+    assert study.title == "town" and study.scenario.duration == 9000
     assert {gate.into for gate in study.gates.values()} == {"A 9 north", "A 9 south", "motorway_link 112 north-west"}
     with pytest.raises(Problem, match='--roads: "lane" is no class of road'):
         import_osm(TOWN, tmp_path / "town.toml", roads="lane")

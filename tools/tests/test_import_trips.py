@@ -4,7 +4,8 @@ import pytest
 
 from ctmtools import assign, import_sumo, read_study
 from ctmtools.assignment.assigning import Assignment
-from ctmtools.imports.zones import read_matrix
+from ctmtools.imports.sumo import read_network
+from ctmtools.imports.zones import put_trips, read_districts, read_matrix
 
 NET = """<net version="1.9">
 <edge id="in" from="a" to="b"><lane id="in_0" index="0" speed="13.89" length="400"/></edge>
@@ -24,7 +25,7 @@ TAZ = """<additional><taz id="1" edges="in"/><taz id="2"><tazSource id="in" weig
 
 def demands(path):
     return [(trips.source, trips.into, [(float(flow.start), float(flow.end), float(flow.flow)) for flow in trips.demand])
-            for trips in read_study(path).trips]
+            for trips in read_study(path).scenario.trips]
 
 
 @pytest.fixture
@@ -44,7 +45,7 @@ def test_vehicles_of_sumo_become_trips_and_choose_their_way(tool, net, name, rou
     assert status == 0, err
     # A vehicle each 6 s: 600 vehicles/h.
     assert demands(net / "n.toml") == [("in-in", "out-out", [(0, 450, 600), (450, 900, 600)])]
-    made = Assignment(read_study(net / "n.toml"))
+    made = Assignment(read_study(net / "n.toml").scenario)
     made.start()
     roads = {road for row in made.rows() for road in row.roads}
     assert "low" in roads and "up" not in roads
@@ -61,6 +62,16 @@ def test_a_matrix_of_sumo_becomes_trips(tool, net, matrix):
     assert status == 0, err
     # 150 vehicles in a quarter of an hour.
     assert demands(net / "n.toml") == [("in-in", "out-out", [(0, 900, 600)])]
+
+
+def test_a_pair_is_parted_by_the_weights_of_its_streets_and_one_without_a_way_is_told(net):
+    (net / "t.taz.xml").write_text('<additional><taz id="1"><tazSource id="in" weight="2"/><tazSink id="in" weight="1"/></taz><taz id="2">'
+                                   '<tazSource id="up" weight="1"/><tazSink id="up" weight="1"/><tazSink id="low" weight="3"/></taz></additional>')
+    found = read_network(net / "n.net.xml")
+    # A quarter of 40 goes to up, the others to low; no way leads from up to in.
+    put_trips(found, read_districts(found, net / "t.taz.xml"), (0, 900, [("1", "2", 40), ("2", "1", 7)]), "m.od", 900)
+    assert [(trip.route, trip.vehicles) for trip in found.trips] == [(["in", "up"], 10), (["in", "low"], 30)]
+    assert found.notes[-1] == "m.od: 7 vehicles without a way over the network are left out" and found.said[-1].kept == 40
 
 
 @pytest.mark.parametrize("matrix, told", [
@@ -137,15 +148,15 @@ def test_the_ways_are_those_of_cars_from_end_to_end(tool, net):
 def test_a_matrix_is_cut_where_the_demand_ends(net, end, flow):
     (net / "t.taz.xml").write_text(TAZ)
     (net / "m.od").write_text(f"$OR;D2\n0.00 {end}\n1.00\n1 2 100\n")
-    study = import_sumo(net / "n.net.xml", net / "n.toml", trips=True, taz=net / "t.taz.xml", matrix=net / "m.od", until="15 min")
-    assert [[(row.start, row.end, row.flow) for row in trips.demand] for trips in study.trips] == [[(0, 900, flow)]]
+    study = import_sumo(net / "n.net.xml", net / "n.toml", trips=True, taz=net / "t.taz.xml", matrices=net / "m.od", until="15 min")
+    assert [[(row.start, row.end, row.flow) for row in trips.demand] for trips in study.scenario.trips] == [[(0, 900, flow)]]
 
 
 def test_an_imported_study_is_assigned_from_python_with_the_columns_of_its_file(net, program, monkeypatch):
     monkeypatch.setenv("CTM_PROGRAM", program)
     (net / "n.rou.xml").write_text('<routes><flow id="1" begin="0" end="900" number="90" from="in" to="out"/></routes>')
     import_sumo(net / "n.net.xml", net / "n.toml", trips=True, routes=net / "n.rou.xml", until=900, interval=900)
-    ways = assign(net / "n.toml", net / "a.toml")
+    ways = assign(net / "n.toml", net / "a.toml").rows
     assert list(ways.columns) == (net / "a.ways.csv").read_text().splitlines()[0].split(",")
     assert ways[["from", "to"]].drop_duplicates().values.tolist() == [["in-in", "out-out"]]
     assert ways.vehicles.sum() == pytest.approx(90)

@@ -3,7 +3,7 @@
 import sys
 
 from ctmtools.imports.gmns import read_folder
-from ctmtools.imports.streets import ALL_STOP, LEFT, RIGHT, Program, Stage, Street, Streets, Way
+from ctmtools.imports.streets import ALL_STOP, LEFT, RIGHT, Connection, Program, Stage, Street, Streets
 from ctmtools.imports.study_file import Terms, Writer
 from ctmtools.imports.traffic import traffic_of
 
@@ -44,9 +44,9 @@ def row_of(junctions):
         through, right, left = (f"m{i - 1}", f"m{i}"), (f"s{i}", f"m{i}"), (f"s{i}", f"b{i - 1}")
         back, out = (f"b{i}", f"b{i - 1}"), (f"b{i}", f"o{i}")
         control = ALL_STOP if i % 3 == 1 else "stop"
-        found.ways |= {through: Way(1, 4, greens[0]), back: Way(1, 4, greens[0]), out: Way(1, 4, greens[0], turns=RIGHT)}
+        found.ways |= {through: Connection(1, 4, greens[0]), back: Connection(1, 4, greens[0]), out: Connection(1, 4, greens[0], turns=RIGHT)}
         for way, turns, others in ((right, RIGHT, {through}), (left, LEFT, {through, back})):
-            found.ways[way] = Way(1, 1, greens[1], turns=turns, control=control, yields=others if i % 3 else set())
+            found.ways[way] = Connection(1, 1, greens[1], turns=turns, control=control, yields=others if i % 3 else set())
     return found
 
 

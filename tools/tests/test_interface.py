@@ -60,12 +60,15 @@ def test_plot(reports, tmp_path):
 
 def test_sweep(plain, tmp_path, monkeypatch):
     monkeypatch.chdir(tmp_path)
-    frame = sweep(STUDY, {"signals.offset": [0, 40], "demand": numpy.arange(0.9, 1.05, 0.1)}, jobs=1)
+    found = sweep(STUDY, {"signals.offset": [0, 40], "demand": numpy.arange(0.9, 1.05, 0.1)}, jobs=1)
+    frame = found.rows
+    assert found.keys == ("signals.offset", "demand") and len(found) == 4 and found.best["signals.offset"] == 40
+    assert "<table" in found._repr_html_() and found != sweep(STUDY, {"demand": [1]}, jobs=1)
     assert list(frame.columns[:3]) == ["signals.offset", "demand", "delay_vehicle_hours"]
     assert frame["demand"].tolist()[0] == 0.9 and sorted(frame["signals.offset"]) == [0, 0, 40, 40]
     whole = frame[(frame.demand == 1) & (frame["signals.offset"] == 40)].iloc[0]
     assert whole.delay_vehicle_hours == pytest.approx(6.75) and not frame.error.any() and not os.listdir(tmp_path)
-    kept = sweep(STUDY, {"signals.offset": "0:40:40"}, output=tmp_path / "kept", jobs=2)
+    kept = sweep(STUDY, {"signals.offset": "0:40:40"}, output=tmp_path / "kept", jobs=2).rows
     assert kept.delay_vehicle_hours.tolist() == pytest.approx([6.75, 33])
     assert len((tmp_path / "kept" / "results.csv").read_text().splitlines()) == 3
     with pytest.raises(Problem, match="has no values"):
@@ -81,10 +84,12 @@ def test_the_delay_by_its_name(plain):
 
 def test_choose_and_optimise(program, tmp_path, monkeypatch):
     monkeypatch.chdir(tmp_path)
-    rows = choose(STUDY, {"signals.offset": [0, 40, 80]})
+    rows = choose(STUDY, {"signals.offset": [0, 40, 80]}).rows
     assert rows["signals.offset"].tolist()[0] == 40 and rows.delay_vehicle_hours.tolist()[0] == pytest.approx(6.75)
     found = optimise(STUDY, generations=1, population=6)
     assert found.before == pytest.approx(33) and found.after <= found.before and "[[signals]]" in found.text
+    assert found.best["delay_vehicle_hours"] == found.after and found.rows.delay_vehicle_hours.max() >= found.before
+    assert len(found.rows) >= 6 and len(found.keys) == 5
     assert not os.listdir(tmp_path)
     choose(STUDY, {"signals.offset": [0, 40]}, output="kept")
     optimise(STUDY, "found", generations=1, population=6)
@@ -107,6 +112,7 @@ def test_calibrate(program, tmp_path):
     found = calibrate(STUDY, tmp_path / "seen.csv", {"demand": (0.7, 1.1)}, runs=20, first=4)
     low, high = found.as_well["demand"]
     assert found.values["demand"] == pytest.approx(0.9, abs=0.02) and low <= found.values["demand"] <= high
+    assert found.best == {**found.values, "distance": found.distance} and found.rows.demand.is_unique and len(found) == found.runs - 1
 
 
 def test_imports_and_the_page(program, tmp_path, report):
@@ -165,7 +171,7 @@ def test_every_public_function_says_what_it_does():
 def test_the_annotations_hold():
     from mypy import api
 
-    told, faults, status = api.run(["--config-file", str(TOOLS / "pyproject.toml"), "--cache-dir", os.devnull,
+    told, faults, status = api.run(["--strict", "--config-file", str(TOOLS / "pyproject.toml"), "--cache-dir", os.devnull,
                                     str(TOOLS / "ctmtools")])
     assert status == 0, told + faults
 

@@ -26,7 +26,8 @@ CALIBRATE = ["calibrate", STREET, "--observed", "seen.csv", "--vary", "demand=0.
 # The tools with so many times the time until a command that was interrupted, or the program, is ended from within.
 CODE = """
 import sys
-from ctmtools import command_line, interrupt, processes
+from ctmtools import command_line
+from ctmtools.program import interrupt, processes
 patience = float(sys.argv.pop(1))
 interrupt.PATIENCE *= patience
 interrupt.LEAVE *= patience
@@ -129,7 +130,7 @@ def test_an_interrupt_ends_it_soon_with_one_line(tmp_path, program, case):
         subprocess.run(["rm", "-rf", *(str(path) for path in tmp_path.iterdir() if path.name not in before)])
     else:
         pytest.fail(str(took))
-    assert not sleepers(tmp_path) and not list(tmp_path.glob("*.report")) and not list(tmp_path.glob("*.part"))
+    assert not sleepers(tmp_path) and not list(tmp_path.glob("*.report")) and not list(tmp_path.glob(".*.ctm-*"))
 
 
 @pytest.mark.parametrize("words, call, done", [
@@ -222,6 +223,7 @@ setsid bash -c 'exec -a {tmp_path}/stand-in-began sleep 1000' &
 began=$!
 trap 'kill $began; echo "./ctm: interrupted, so nothing was run" >&2; exit 125' TERM
 echo './ctm: building' >&2
+sleep 2  # in which the line is handed on
 touch {tmp_path}/reached
 wait
 """)
@@ -230,8 +232,9 @@ wait
     assert (status, err) == (130, "./ctm: building\nctm-tools: interrupted\n") and not sleepers(tmp_path)
 
 
-def test_an_interrupt_that_a_library_takes_for_a_fault_of_the_file(tmp_path, reports):
-    # pandas makes of an interrupt while it reads the fault that the text can't be read, which would blame the report.
+def test_an_interrupt_that_a_library_takes_for_a_fault_of_the_file(tmp_path):
+    # pandas makes of an interrupt while it reads the fault that the text can't be read, which would blame the counts.
+    (tmp_path / "seen.csv").write_text(DETECTORS)
     code = f"""
 import os, signal, sys
 import pandas
@@ -243,7 +246,7 @@ def read_csv(*words, **named):
     except KeyboardInterrupt:
         raise pandas.errors.ParserError("Calling read(nbytes) on source failed")
 pandas.read_csv = read_csv
-main(["table", {str(reports("bottleneck"))!r}])"""
+main(["detectors", {str(tmp_path / "seen.csv")!r}])"""
     ended = subprocess.run([sys.executable, "-c", code], capture_output=True, text=True, preexec_fn=heeds_an_interrupt,
                            env={**os.environ, "PYTHONPATH": str(TOOLS)})
     assert (ended.returncode, ended.stderr, ended.stdout) == (130, "ctm-tools: interrupted\n", "")
@@ -274,7 +277,7 @@ except BaseException as error:
 
 # An interrupt as a command ends: while its watcher is taken leave of, and as Python ends, before what was registered first.
 ENDING = {"the watcher": """
-from ctmtools import interrupt
+from ctmtools.program import interrupt
 woken = interrupt.INTERRUPTS.woken
 def set_(set=woken.set):
     os.kill(os.getpid(), signal.SIGINT)
@@ -295,9 +298,9 @@ def test_an_interrupt_of_a_command_that_is_done_changes_nothing(tmp_path, at):
 
 
 @pytest.mark.parametrize("words, where, name", [
-    (["table", "REPORT", "-o", "t.csv"], "pandas.DataFrame.to_csv", "t.csv"),
-    (["plot", "delay", "REPORT", "-o", "p.png"], "matplotlib.figure.Figure.savefig", "p.png"),
-    (["plot", "delay", "REPORT", "-o", "p.png"], "os.replace", "p.png")], ids=["table", "plot", "replaced"])
+    (["table", "REPORT", "-o", "t.csv", "--force"], "pandas.DataFrame.to_csv", "t.csv"),
+    (["plot", "delay", "REPORT", "-o", "p.png", "--force"], "matplotlib.figure.Figure.savefig", "p.png"),
+    (["plot", "delay", "REPORT", "-o", "p.png", "--force"], "os.replace", "p.png")], ids=["table", "plot", "replaced"])
 def test_an_interrupt_leaves_what_stood_there(tool, reports, tmp_path, monkeypatch, words, where, name):
     def stopped(*_, **__):
         raise KeyboardInterrupt

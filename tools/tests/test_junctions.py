@@ -79,9 +79,9 @@ def test_three_that_lead_to_one_way_out_are_joined_twice(tmp_path):
 
 def test_the_vehicles_go_where_their_shares_say(tmp_path):
     report = report_of(plain_model.report(built(tmp_path, THREE).text.encode(), 1))
-    n, steps = report.occupancy, {"n-x1": 1, "n-y1": 2, "n-z1": 3}
+    n, steps = report.vehicles, {"n-x1": 1, "n-y1": 2, "n-z1": 3}
     # 600 vehicles/h are 100 in 10 min; of n come a sixth, a third and a half, and of w four fifths and a fifth.
-    passed = report.departed.loc[180] - report.departed.loc[120]
+    passed = report.left.loc[180] - report.left.loc[120]
     assert {cell: passed[cell] for cell in steps} == pytest.approx({"n-x1": 100 / 6, "n-y1": 100 / 3, "n-z1": 50}, abs=0.01)
     assert {exit_: n[exit_][180] - n[exit_][120] for exit_ in ("outx", "outy", "outz")} == \
         pytest.approx({"outx": 100 / 6 + 80, "outy": 100 / 3 + 100, "outz": 50 + 20}, abs=0.01)
@@ -165,7 +165,7 @@ def in_order(fields):
 def test_the_grid_is_that_of_merges_and_diverges_by_hand():
     short, long = (build(read_study(path)).text.encode() for path in (EXAMPLES / "grid.toml",
                                                                       TOOLS / "tests/studies/grid-by-hand.toml"))
-    one, two = ({in_order(record.fields) for record in network_of(text).records} for text in (short, long))
+    one, two = ({in_order((record.kind, *record.values)) for record in network_of(text).records} for text in (short, long))
     assert one == two
     one, two = (report_of(plain_model.report(text)).cells for text in (short, long))
     # Merges round the parts of a vehicle to the side of the first of two.

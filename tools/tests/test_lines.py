@@ -8,7 +8,7 @@ import pytest
 from ctmtools.commands.compare import _travel, signed
 from ctmtools.report.queues import queues_in
 from ctmtools.report.summary import _lasting, clock, kilometre, length, number_text, page, where
-from ctmtools.text_table import table
+from ctmtools.texts.text_table import table
 from ctmtools.units import Units
 
 from .plain_reports import plain_report
@@ -40,7 +40,7 @@ def test_roads_whose_travel_time_differs():
     frame = pandas.DataFrame({"first": [9.0, 5, 5, 5, 5, 5, 5, 12.5], "second": [12.5, 4, 4, 4, 4, 4, 4, 12.504]},
                              index=["north", *"abcdef", "same"])
     frame["rise"] = frame["second"] - frame["first"]
-    assert list(_travel(frame)) == ["\nMean travel time from end to end in min, 6 of 7 roads that differ:\n",
+    assert list(_travel(frame)) == ["", "Mean travel time from end to end in min, 6 of 7 roads that differ:", "",
                                     "  road   A     B  B - A", "  north  9  12.5   +3.5", *(f"  {road}      5     4     -1" for road in "abcde")]
     assert not list(_travel(frame[frame.index == "same"]))
 
@@ -77,7 +77,7 @@ def test_the_most_costly_queues_have_a_row_and_the_others_are_counted():
     report = corridors(60, **{f"r{i:02}": 20 for i in range(1, 14)}, r14=19, s1=4, s2=4)
     lines = list(page(report))
     assert lines[:4] == ["made: 60 steps, 48 cells", "",
-                         f"Vehicles  {13 * 40 + 38 + 16} came, {13 * 40 + 38 + 16} were served, 0 are still inside",
+                         f"Vehicles  {13 * 40 + 38 + 16} entered, {13 * 40 + 38 + 16} left, 0 are still inside",
                          f"Delay     {13 * 400 + 361 + 32:,} vehicle-steps"]
     rows = [line for line in lines if line.startswith("  r")]
     assert rows[0].split() == ["r01", "2", "1", "cell", "r01", "2", "20", "21", "41", "400"] and len(rows) == 12
@@ -121,4 +121,4 @@ def test_the_travel_times_of_a_page():
     begin = lines.index("Travel time from end to end, of those who have arrived:")
     assert lines[begin + 2:begin + 4] == ["  road    km  at free flow      mean   longest  of who set out at",
                                           "  a     0.25        60.0 s  11.0 min  20.5 min  00:20:00"]
-    assert lines[3] == "Delay     6.67 vehicle-hours, 10.0 min for each vehicle that came"
+    assert lines[3] == "Delay     6.67 vehicle-hours, 10.0 min for each vehicle that entered"

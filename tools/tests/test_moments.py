@@ -7,7 +7,8 @@ from ctmtools import Problem
 from ctmtools.moments.agreement import difference
 from ctmtools.moments.runner import Runner, rows_of
 from ctmtools.moments.moment import Moment, Row, moment_of
-from ctmtools.network_file.editing import with_records, with_steps
+from ctmtools.network_file.records import with_steps
+from ctmtools.network_file.kinds import record
 from ctmtools.network_file.naming import Naming
 from ctmtools.network_file.network import network_of
 from ctmtools.units import Units
@@ -44,12 +45,13 @@ def test_what_is_no_saved_text(text, told):
         moment_of(text, "s")
 
 
-def test_a_network_with_other_steps_and_with_more_records():
+def test_a_network_with_other_steps_and_with_other_records():
     assert with_steps(CORRIDOR, 2) == CORRIDOR.replace(b"steps,3", b"steps,2")
     assert with_steps(CORRIDOR.replace(b"steps,3", b'"st"eps,"03"'), 2) == CORRIDOR.replace(b"steps,3", b"steps,2")
-    assert with_records(CORRIDOR[:-1], ["limit,in,0,1,1"]) == CORRIDOR + b"limit,in,0,1,1\n"
-    with pytest.raises(Problem, match="isn't closed"):
-        with_records(CORRIDOR[:-2] + b'"4', ["limit,in,0,1,1"])
+    longer = network_of(CORRIDOR).with_more([record("limit", "in", 0, 1, 1_500_000)])
+    assert longer.content == CORRIDOR + b"limit,in,0,1,1.5\n" and longer.limits_of == {"in": [(0, 1, 1.5)]}
+    shorter = longer.without([record("demand", "in", 0, 1, 4_000_000)])
+    assert shorter.content == CORRIDOR.replace(b"demand,in,0,1,4\n", b"limit,in,0,1,1.5\n") and shorter.demands.empty
 
 
 def test_a_cell_has_the_name_of_its_road_where_the_seconds_of_a_step_are_known_too():

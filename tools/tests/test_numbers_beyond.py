@@ -5,8 +5,8 @@ from fractions import Fraction
 import pytest
 
 from ctmtools import Problem, read_study
-from ctmtools.study.quantities import exact
-from ctmtools.sweeps.variations import variation
+from ctmtools.texts.quantities import exact
+from ctmtools.many_runs.variations import variation
 
 from .trips import TWO_WAYS
 

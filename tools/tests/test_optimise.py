@@ -7,11 +7,10 @@ from pathlib import Path
 import pytest
 
 from ctmtools.plans.candidates import candidate
-from ctmtools.plans.searching import Search, moved_to
+from ctmtools.plans.searching import Search, Tried, moved_to
 from ctmtools.plans.timing import Timing
-from ctmtools.plans.tried_plans import Tried
 from ctmtools.problem import Problem
-from ctmtools.study.reading import read_study, read_values, study_of
+from ctmtools.study.reading import read_scenario, read_values, scenario_of
 from ctmtools.study.writing import study_text
 
 from .examples import EXAMPLES
@@ -51,7 +50,7 @@ def test_the_point_of_a_study_is_the_study(name):
     point = variables.start
     assert len(point) == len(variables.most) and all(0 <= number <= most for number, most in zip(point, variables.most))
     path = EXAMPLES / f"{name}.toml"
-    assert candidate(study_of(variables.changed(point), path)) == candidate(read_study(path))
+    assert candidate(scenario_of(variables.changed(point), path)) == candidate(read_scenario(path))
 
 
 def test_each_stop_line_of_a_street_follows_the_one_before():
@@ -70,7 +69,7 @@ def test_a_junction_parts_the_green_that_it_has():
     assert variables.changed((3, 0) + (0, 6) * 3)["junctions"][0]["offset"] == 15
     assert timing("grid", 35).most == [15] * 4  # 14 steps are all that two greens of 7 need
     for point in ((0, 0) * 4, (15, 10) * 4, (7, 3) * 4):
-        candidate(study_of(variables.changed(point), Path("grid.toml")))
+        candidate(scenario_of(variables.changed(point), Path("grid.toml")))
 
 
 def test_a_study_without_signals_is_refused():
@@ -86,7 +85,7 @@ def test_on_the_street_of_ten_signals_the_delay_is_at_least_a_tenth_less(tool, c
     before, after = map(float, row[-2:])
     assert before == pytest.approx(49980 / 360, abs=0.01) and after <= 0.9 * before  # all at once, examples/README.md
     assert "64 runs in this call, 64 plans tried in all" in out
-    assert candidate(read_study("arterial-ten.optimise/best.toml")).cells == candidate(read_study(STREET)).cells
+    assert candidate(read_scenario("arterial-ten.optimise/best.toml")).cells == candidate(read_scenario(STREET)).cells
     # The same call makes no run again, and one with another folder tries the same plans.
     again = tool(*words)[1]
     assert again.startswith("64 plans stand in") and "less delay; 0 runs in this call, 64 plans" in again

@@ -1,6 +1,7 @@
 """The defaults and ranges of the options, as each command's help has them: none of them changes unseen."""
 
 import inspect
+import re
 
 import click
 import pytest
@@ -35,12 +36,24 @@ def test_the_numbers_that_options_take():
     assert {name: found.get(name) for name in NUMBERS} == NUMBERS
 
 
-@pytest.mark.parametrize("name", ["assign", "calibrate", "draw", "optimise"])
+def defaults(function):
+    """The numbers that a function takes where its caller names none: of its parameters, and of the options that it asks for."""
+    asked = re.findall(r'options\.get\("(\w+)", ([\d.]+)\)', inspect.getsource(function))
+    terms = inspect.signature(function).parameters
+    return {**{term: one.default for term, one in terms.items() if type(one.default) in (int, float)},
+            **{option: float(number) for option, number in asked}}
+
+
+# The numbers that a function has a default for.
+NUMBERED = {"assign": {"gap", "iterations"}, "calibrate": {"first", "jobs", "runs", "starts"}, "draw": {"runs", "seed"},
+            "optimise": {"generations", "least_green", "population", "seed"}}
+
+
+@pytest.mark.parametrize("name", NUMBERED)
 def test_a_function_has_the_defaults_of_its_command(name):
     options = {option.name: option.default for option in tools.get_command(click.Context(tools), name).params}
-    terms = inspect.signature(getattr(ctmtools, name)).parameters
-    numbers = {term: one.default for term, one in terms.items() if type(one.default) in (int, float)}
-    assert numbers and numbers == {term: float(options[term]) for term in numbers}
+    numbers = defaults(getattr(ctmtools, name))
+    assert numbers.keys() == NUMBERED[name] and numbers == {term: float(options[term]) for term in numbers}
 
 
 @pytest.mark.parametrize("words, told", [(["run", "x.csv", "--workers", "17"], "17 is not in the range 1<=x<=16"),

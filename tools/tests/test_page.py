@@ -1,25 +1,27 @@
 """What the page of reports shows, against numbers worked out on paper and those of the program, `compare` and `table`."""
 
+import base64
 import datetime
+import hashlib
 import json
+import re
 import subprocess
 from dataclasses import replace
 
 import numpy
-import pandas
 import pytest
 
 from ctmtools import Problem, by_road, read_report
 from ctmtools.network_file.network import network_of
-from ctmtools.pages.background import Background
+from ctmtools.pages.background import STREETS, Background
 from ctmtools.pages.content import data_of
-from ctmtools.pages.junctions import junctions_of
-from ctmtools.pages.networks import roads_of
+from ctmtools.pages.networks import junctions_of, roads_of
 from ctmtools.pages.html_page import DRAWING_LIBRARY, page_of
 from ctmtools.pages.tables import table_of
-from ctmtools.report.names import names_of
+from ctmtools.report.comparability import names_of
 from ctmtools.report.queues import standing
-from ctmtools.report.reading import Report, report_of
+from ctmtools.report.reading import Amounts, Report, Sums, report_of
+from ctmtools.report.records import Records
 
 from .corridor import HEAD, corridor
 from .examples import TOOLS
@@ -38,6 +40,35 @@ demand = [["06:00", "06:30", 1080]]
 from = "b"
 capacity = 720
 """
+
+
+def policy_of(page):
+    """The terms of a page's content policy."""
+    text = re.search('<meta http-equiv="Content-Security-Policy" content="([^"]*)">', page)[1]
+    return dict(term.split(" ", 1) for term in text.split("; "))
+
+
+def test_the_content_policy_allows_the_scripts_and_the_style_of_the_page_alone(tmp_path):
+    page = page_of([reported(corridor(tmp_path))], library="// d3")
+    policy = policy_of(page)
+    for kind in ("script", "style"):
+        texts = re.findall(f"<{kind}>(.*?)</{kind}>", page, re.DOTALL)
+        sums = [f"'sha256-{base64.b64encode(hashlib.sha256(text.encode()).digest()).decode()}'" for text in texts]
+        assert policy.pop(f"{kind}-src").split() == sums and f"<{kind} " not in page
+    assert policy == {"default-src": "'none'", "base-uri": "'none'", "form-action": "'none'"}
+    assert "Content-Security-Policy" in page.partition("<style>")[0] and not re.search(r"\s(on\w+|style)=", page.partition("<script>")[0])
+
+
+@pytest.mark.parametrize("tiles, allowed", [
+    (STREETS, "https://tile.openstreetmap.org"), ("http://127.0.0.1:80/{z}/{x}/{y}.png", "http://127.0.0.1:80"), ("tiles/{z}/{x}/{y}.png", "'self' file:")])
+def test_the_content_policy_allows_tiles_of_one_server(tiles, allowed):
+    assert Background(tiles=tiles).origin == allowed
+
+
+@pytest.mark.parametrize("tiles", ["javascript://x/{z}", "https://a; script-src */{z}", 'https://a"><script>/{z}'])
+def test_no_server_of_tiles_changes_the_content_policy(tiles):
+    with pytest.raises(Problem, match="--tiles: expected the address of a server"):
+        _ = Background(tiles=tiles).origin
 
 
 def test_density_and_flow(tmp_path):
@@ -63,18 +94,17 @@ def large():
     names = [f"c{i:04d}" for i in range(2000)]
     network = network_of(("ctm,1\nsteps,1440\n" + "".join(f"road,{name},60,9,1,5,0\n" for name in names) +
                           "".join(f"link,{one},{two}\n" for one, two in zip(names, names[1:]))).encode())
-    times = numpy.arange(1441)
-    held = pandas.DataFrame(numpy.random.default_rng(1).random((1441, 2000)) * 60, index=times, columns=names)
-    cells = pandas.DataFrame({name: 0.0 for name in ("n", "come", "gone", "wait")}, index=pandas.Index(names, name="cell"))
-    total = pandas.Series({"inside": 0.0, "entered": 0.0, "left": 0.0, "delay": 0.0})
-    return Report(1440, cells, total, times, held, held.cumsum(), network=network, name="large")
+    held = numpy.random.default_rng(1).random((1441, 2000)) * 60
+    left = numpy.vstack([numpy.zeros(2000), numpy.cumsum(held[:-1] / 2, axis=0)])  # of what a cell holds the half leaves, and half waits
+    amounts = Amounts(n=held[-1], come=held[-1] + left[-1], gone=left[-1], wait=left[-1])
+    return Report(1440, names, amounts, Sums(0, 0, 0, 0), Records.of_vehicles(numpy.arange(1441), held, left), network=network, name="large")
 
 
 def test_the_data_of_a_large_report_stay_small():
     report = large()
     made = data_of([report])
     assert len(json.dumps(made, separators=(",", ":"))) < 5_000_000 and len(made["times"]) == 361  # four steps each
-    held = report.occupancy.to_numpy()
+    held = report.vehicles.to_numpy()
     assert decoded(made, "density")["c0007"][3] == pytest.approx(held[12:16, 7].mean(), abs=0.001)
 
 
@@ -93,7 +123,7 @@ def test_lengths_that_are_not_known_are_not_km(report):
     read.units.cells, read.units.roads = {}, {}
     data = data_of([read])
     assert data["units"] == {"density": "vehicles in a cell", "flow": "vehicles/h", "speed": "cells in a step", "place": "cell"}
-    assert decoded(data, "density")["m24"].max() == pytest.approx(read.held["m24"].max(), abs=0.01)
+    assert decoded(data, "density")["m24"].max() == pytest.approx(read.vehicles["m24"].max(), abs=0.01)
     assert [measure["unit"] for measure in data["tables"]["roads"]["measures"]][::4] == ["cells", "cells"]
 
 
@@ -146,7 +176,7 @@ def test_the_table_tells_what_table_by_road_tells(report, name):
     rows = by_road(read).set_index("road")
     for road, own in figures(table_of([read])).items():
         if road in rows.index:
-            told = rows.loc[road, ["delay", "vehicles", "delay_each", *(["queue"] if own[4] is not None else [])]]
+            told = rows.loc[road, ["delay", "left", "delay_each", *(["queue"] if own[4] is not None else [])]]
             assert [value for value in own[1:5] if value is not None] == pytest.approx(told.tolist(), abs=1e-4), road
 
 

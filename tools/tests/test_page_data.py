@@ -35,7 +35,7 @@ def test_the_data_of_a_light():
     assert [data["reports"][0][name]["most"][1] for name in ("density", "flow")] == [2, 2]
     assert data["units"] == {"density": "vehicles in a cell", "flow": "vehicles in a step", "speed": "cells in a step", "place": "cell"}
     assert data["times"] == [f"step {step}" for step in range(41)] and data["clock"] == {"known": False, "bounds": [*range(41)]}
-    assert data["subtitle"] == "40 steps. 3 vehicles came, 3 were served, 0 are still inside, delay 6 vehicle-steps"
+    assert data["subtitle"] == "40 steps. 3 vehicles entered, 3 left, 0 are still inside, delay 6 vehicle-steps"
     assert data["notes"].startswith("Density, flow and speed are means over 1 step. A cell") and data["title"] == "light"
     whole = "all road cells, in the order of the file"
     assert data["networks"][0]["roads"] == {whole: [1]} and data["opening"] == {"report": 0, "road": whole, "cell": "a", "frame": 9}
@@ -56,20 +56,20 @@ def test_means_of_records_that_stand_apart():
     report = report_of(text, "c")
     report.network = network_of(b"ctm,1\nsteps,10\nroad,c,60,9,1,5,0\n")
     data = data_of([report])
-    # Held are 4, 8 and 4 in the mean, and 1, 3 and 1 go out in a step.
-    assert decoded(data, "density")["c"] == pytest.approx([4, 8, 4], abs=0.001)
+    # 4, 3 and 5 go out. Evenly between records it would hold 12, 8 and 22 over the steps, 8, 5 and 17 more, of which 20 of 30 wait.
+    assert decoded(data, "density")["c"] == pytest.approx([(4 + 16 / 3) / 4, 3 + 10 / 3, (5 + 34 / 3) / 5], abs=0.001)
     assert decoded(data, "flow")["c"] == pytest.approx([1, 3, 1], abs=0.001)
 
 
 def test_of_times_of_one_density_the_page_opens_at_that_with_most_vehicles():
-    rows = ((0, "a", 10, 0), (0, "b", 0, 0), (1, "a", 0, 10), (1, "b", 50, 0), (2, "a", 0, 10), (2, "b", 0, 50))
-    report = report_of(b"report,2,2\n" + b"".join(b"at,%d,%s,%d,%d\n" % (step, cell.encode(), *row) for step, cell, *row in rows) +
-                       b"cell,a,0,10,10,0\ncell,b,0,50,50,0\ntotal,0,60,60,0\n", "c")
-    report.network = network_of(b"ctm,1\nsteps,2\nroad,a,60,9,1,5,0\nroad,b,60,9,1,5,0\n")
+    rows = ((0, "a", 10, 0), (0, "b", 0, 0), (1, "a", 0, 10), (1, "b", 50, 0), (2, "a", 9, 10), (2, "b", 45, 50), (3, "a", 0, 19), (3, "b", 0, 95))
+    report = report_of(b"report,3,2\n" + b"".join(b"at,%d,%s,%d,%d\n" % (step, cell.encode(), *row) for step, cell, *row in rows) +
+                       b"cell,a,0,19,19,0\ncell,b,0,95,95,0\ntotal,0,114,114,0\n", "c")
+    report.network = network_of(b"ctm,1\nsteps,3\nroad,a,60,9,1,5,0\nroad,b,60,9,1,5,0\n")
     report.units = Units(step=10, start=0, roads={"m": ["a", "b"]}, cells={"a": {"road": "m", "from_km": 0, "to_km": 0.1},
                                                                            "b": {"road": "m", "from_km": 0.1, "to_km": 0.6}})
-    # First 10 vehicles on the 100 m of a, then 50 on the 500 m of b: 100 vehicles/km each time.
-    assert opening([Frames(report, [0, 1, 2], True)])["frame"] == 1
+    # First 10 vehicles on the 100 m of a, then 50 on the 500 m of b: 100 vehicles/km each time. Then 54 on both, 90 vehicles/km.
+    assert opening([Frames(report, [0, 1, 2, 3], True)])["frame"] == 1
 
 
 def test_two_reports_side_by_side():

@@ -11,10 +11,10 @@ from ctmtools.pages.content import data_of
 from ctmtools.pages.draws import MOST_POINTS, draws_of
 from ctmtools.pages.html_page import page_of
 from ctmtools.problem import Problem
-from ctmtools.checksums import checksum
+from ctmtools.network_file.checksums import checksum
+from ctmtools.files.seals import KEY, sealed
 from ctmtools.uncertainty.reliability import DELAY, TRAVEL
-from ctmtools.uncertainty.results import Results
-from ctmtools.uncertainty.results_files import read_results, write_results
+from ctmtools.uncertainty.results import Draws, read_results, write_results
 
 from .corridor import GATE
 from .test_page_in_browser import browser, opened, printed_pages, text  # noqa: F401
@@ -23,8 +23,8 @@ TITLES = {"uncertain": "A lane drop, demand uncertain", "uncertain-shoulder": "T
 
 
 def results_of(delays, networks, failed=()):
-    """Results whose plans have these delays; the travel time of the road is 12 min and a minute for each vehicle-hour."""
-    rows = [{"plan": plan, "draw": number, "demand": 0.1 * number, "incidents": 0, DELAY: delay, "served_vehicles": 4800.0,
+    """Draws whose plans have these delays; the travel time of the road is 12 min and a minute for each vehicle-hour."""
+    rows = [{"plan": plan, "draw": number, "demand": 0.1 * number, "incidents": 0, DELAY: delay, "left_vehicles": 4800.0,
              "inside_vehicles": 0.0, "last_queue_s": 600.0 * number, f"{DELAY} m": delay, f"{TRAVEL}m": 12.0 + delay, "queue_past m.9": number % 2,
              "rounded": "", "error": ""}
             for plan, own in delays.items() for number, delay in enumerate(own, 1)]
@@ -32,8 +32,9 @@ def results_of(delays, networks, failed=()):
     stand = {plan: {DELAY: 3.0, f"{DELAY} m": 3.0, f"{TRAVEL}m": 15.0} for plan in networks}
     count = max(map(len, delays.values()))
     frame = pandas.DataFrame(rows).fillna({"rounded": "", "error": ""})
-    return Results("A lane drop, demand uncertain", {plan: TITLES[plan] for plan in networks}, 4, count, count, ("m.9",), {"07:00": 3600.0},
-                   stand, {plan: {"m": 12.0} for plan in networks}, frame, networks)
+    return Draws(frame, title="A lane drop, demand uncertain", titles={plan: TITLES[plan] for plan in networks}, seed=4, count=count,
+                 asked_for=count, places=("m.9",), times={"07:00": 3600.0}, stand=stand, free={plan: {"m": 12.0} for plan in networks},
+                 networks=networks)
 
 
 @pytest.fixture
@@ -79,7 +80,7 @@ def test_the_page_has_the_distribution_of_each_plan_and_its_sum(beside, tmp_path
 def test_what_is_read_again_is_what_was_written_to_the_last_digit(beside, tmp_path):
     made = results_of({"uncertain": [1 / 3, 0.1 + 0.2, 1e-7], "uncertain-shoulder": []}, beside, failed=["uncertain-shoulder"])
     found = read_results(written(tmp_path, made))
-    pandas.testing.assert_frame_equal(found.draws, made.draws, check_dtype=False, check_exact=True)
+    pandas.testing.assert_frame_equal(found.rows, made.rows, check_dtype=False, check_exact=True)
     pandas.testing.assert_frame_equal(found.summary, made.summary)
     assert (found.titles, found.networks, found.places, found.times) == (made.titles, made.networks, made.places, made.times)
     plans = data_of(both(tmp_path))["draws"]["plans"]
@@ -114,8 +115,8 @@ def edited(folder):
 def of_other_terms(folder):
     path = folder / "draws.json"
     terms = json.loads(path.read_text())
-    del terms["free"]
-    path.write_text(json.dumps(terms))
+    del terms["free"], terms[KEY]
+    path.write_text(json.dumps(sealed(terms)))
 
 
 @pytest.mark.parametrize("change, wanted", [

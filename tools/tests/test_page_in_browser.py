@@ -145,7 +145,7 @@ def test_each_value_is_that_of_the_table(browser, page, report):
             "return ['density', 'flow', 'speed'].map(of => all.map(frame => value(of, place, frame)))", cell)
         density, flow, speed = (numpy.array([numpy.nan if one is None else one for one in own]) for own in told)
         assert flow == pytest.approx(rows.flow.to_numpy(), abs=0.1)
-        assert density == pytest.approx((rows.occupancy if cell == "ramp" else rows.density).to_numpy(), abs=0.01)
+        assert density == pytest.approx((rows.vehicles if cell == "ramp" else rows.density).to_numpy(), abs=0.01)
         driven = ~numpy.isnan(speed)
         assert driven.sum() == (0 if cell == "ramp" else (rows.density > 0.002 * rows.density.max()).sum())
         assert speed[driven] == pytest.approx(rows.speed.to_numpy()[driven], rel=0.005)
@@ -317,7 +317,7 @@ def test_it_is_printed_on_two_pages_of_a4(browser, page, names):
 
 
 def test_what_is_lost_at_fixed_greens_stands_below_the_roads(browser, tmp_path):
-    study = read_study(write(tmp_path, STOP_LINE.format(demand=450, more="")))
+    study = read_study(write(tmp_path, STOP_LINE.format(demand=450, more=""))).scenario
     built = build(study)
     note_losses(study, (), built)
     path = tmp_path / "greens.html"
@@ -346,6 +346,18 @@ def test_a_page_asks_no_server(browser, two):
     opened(browser, two)
     assert browser.execute_script("return performance.getEntriesByType('resource').length") == 0
     assert browser.execute_script("return document.querySelectorAll('img, link').length") == 0
+
+
+def test_no_script_runs_but_the_page_s_own(browser, two, tmp_path):
+    alien = "window.alien = 1"
+    more = f'<script>{alien}</script><img src="none.png" onerror="{alien}"><svg onload="{alien}"></svg><a id="go" href="javascript:{alien}">go</a>'
+    path = tmp_path / "alien.html"
+    path.write_text(two.read_text().replace("</header>", f"{more}</header>", 1))
+    opened(browser, path)
+    browser.execute_script("document.getElementById('go').click()")
+    assert text(browser, "title") and browser.execute_script("return [typeof data, typeof d3, typeof window.alien]") == ["object", "object", "undefined"]
+    told = [entry["message"] for entry in browser.get_log("browser")]
+    assert len([line for line in told if "Content Security Policy" in line]) >= 4
 
 
 def test_a_map_stands_behind_where_it_is_asked_for(browser, reports, tmp_path):

@@ -5,11 +5,15 @@ from itertools import combinations
 import numpy
 import pandas
 import pytest
+from matplotlib import rcParams
 from matplotlib.collections import LineCollection
 from matplotlib.colors import to_hex
+from matplotlib.figure import Figure
+from matplotlib.lines import Line2D
 from matplotlib.text import Text
 
 from ctmtools import Problem, plot, read_report
+from ctmtools.plots.figure import legend_below, save
 from ctmtools.plots.layout import lay_out
 from ctmtools.plots.network_map import MOST_WIDTH, _points
 from ctmtools.plots.pictures import PICTURES
@@ -76,6 +80,13 @@ def test_a_legend_stands_over_no_curve(report, kind, options):
     assert box.x0 >= 0 and box.x1 <= figure.bbox.x1
 
 
+def test_for_a_legend_of_many_rows_a_picture_grows():
+    drawn = Figure(figsize=(8, 4))
+    legend_below(drawn, [Line2D([], [], label=f"{number} {80 * 'w'}") for number in range(8)])
+    # Eight rows of 9 points or more are an inch at least, apart from the axes by 0.08; 0.3 inches of it a picture has.
+    assert drawn.get_size_inches()[0] == 8 and drawn.get_size_inches()[1] >= 4 + 8 * 9 / 72 + 0.08 - 0.3
+
+
 def test_the_rates_of_meters_can_be_read(report):
     from ctmtools.moments.metering import gauge_of
     from ctmtools.plots.rates import draw
@@ -110,8 +121,8 @@ def many_roads(count):
         f"gate,g{i},9,0\nroad,r{i},300,9,1,5,0\nexit,x{i},2\nlink,g{i},r{i}\nlink,r{i},x{i}\ndemand,g{i},0,30,{3 + i % 5}\n"
         for i in range(count)))
     made = plain_report(text, name="many")
-    made.units = Units("Many", 10.0, 0.0, None, {f"r{i}": {"road": f"road{i}", "from_km": 0.0, "to_km": 0.25, "lanes": 2}
-                                                 for i in range(count)}, {f"road{i}": [f"r{i}"] for i in range(count)})
+    made.units = Units(title="Many", step=10.0, start=0.0, roads={f"road{i}": [f"r{i}"] for i in range(count)},
+                       cells={f"r{i}": {"road": f"road{i}", "from_km": 0.0, "to_km": 0.25, "lanes": 2} for i in range(count)})
     return made
 
 
@@ -191,6 +202,13 @@ def test_a_queue_that_reaches_the_upstream_end_is_told_below(tmp_path, kind):
     shown = " ".join(texts(figure).split())
     assert "The queue of m04 (m km 1.00) reaches the upstream end of the model at 07:12:00: up to 306 vehicles wait in the gate on" in shown
     assert_readable(figure)
+
+
+def test_a_folder_with_a_file_matplotlibrc_has_no_latex_run(report, tmp_path, monkeypatch):
+    monkeypatch.setitem(rcParams, "text.usetex", True)
+    monkeypatch.setenv("PATH", str(tmp_path))  # no latex is there to be run
+    save(plot(report("interchange"), "delay"), tmp_path / "a.png")
+    assert (tmp_path / "a.png").stat().st_size > 1000
 
 
 def test_no_such_picture(report):

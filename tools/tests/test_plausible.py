@@ -5,7 +5,7 @@ import pytest
 from ctmtools import build, read_study
 from ctmtools.study.layout import Layout
 from ctmtools.study.plausible import implausible
-from ctmtools.study.rounding import Rounding
+from ctmtools.study.scale import Rounding
 
 from .corridor import HEAD
 
@@ -19,7 +19,7 @@ def lines(tmp_path, lanes=2, length=10, step=10, **keys):
         head = head.replace(old, f"{key} = {value}")
     path = tmp_path / "study.toml"
     path.write_text(head + ROAD.format(length=length, lanes=lanes))
-    study = read_study(path)
+    study = read_study(path).scenario
     return list(implausible(study, Layout(study, Rounding())))
 
 
@@ -46,7 +46,7 @@ def test_more_than_20_000_cells(tmp_path):
     path = tmp_path / "study.toml"
     text = path.read_text().replace('[gates.g]', '[roads.n]\nlength = 0.01\nlanes = 1\n[gates.g]').replace('from = "m"', 'from = "n"')
     path.write_text(text + '[[links]]\nfrom = "m"\ninto = "n"\n')
-    study = read_study(path)
+    study = read_study(path).scenario
     line, = implausible(study, Layout(study, Rounding()))
     assert line.startswith("the study has 20,001 cells, which take long; a longer step gives fewer: with 0.4 s ")
 

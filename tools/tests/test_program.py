@@ -1,14 +1,15 @@
 """The program called: its records against the plain recurrences, and what a caller is told where it can't be run."""
 
+import os
 import random
 
 import plain_model
 import pytest
 
 from ctmtools import __version__
-from ctmtools import program as found_in
+from ctmtools.program import calls as found_in
 from ctmtools.problem import Problem
-from ctmtools.program import Found, ask, found_program, program_path, recording_step, run_words
+from ctmtools.program.calls import Found, ask, found_program, program_path, recording_step, run_words
 
 from .examples import EXAMPLES
 
@@ -111,6 +112,13 @@ def test_the_program_is_searched_for_in_four_places(searched, monkeypatch):
     monkeypatch.setenv("CTM_PROGRAM", str(named.parent / "none"))
     with pytest.raises(Problem, match="none: there is no program there, and CTM_PROGRAM names it"):
         program_path()
+
+
+def test_no_program_of_the_folder_where_one_stands_is_taken(searched, monkeypatch, tool):
+    monkeypatch.chdir(searched("here/ctm").parent)
+    monkeypatch.setenv("PATH", ".::../here")
+    assert "no ctm on the path" in tool("--version")[2]
+    assert os.environ["PATH"] == os.defpath
 
 
 # Each takes --every of the smallest network, as the tools ask first, and fails at the study's.

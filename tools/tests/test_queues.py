@@ -6,6 +6,7 @@ import pytest
 from ctmtools.network_file.network import network_of
 from ctmtools.report.reading import report_of
 from ctmtools.report.summary import page
+from ctmtools.report.queue_heads import heads
 from ctmtools.report.queues import course, queues_in, reach_of_part, standing
 from ctmtools.report.upstream import spills
 
@@ -115,6 +116,12 @@ def test_more_queues_than_rows_are_counted():
     lines = [line for line in page(plain_report(text)) if "more queues" in line]
     # In k steps 1, 2, .. k vehicles wait, and then two fewer in each: 243 vehicle-steps for k = 18, 217 for 17, 192 for 16.
     assert lines == ["  and 3 more queues, the longest of 1 cell from r12 at 2, 652 vehicle-steps in all"]
+
+
+def test_a_queue_all_round_a_ring_is_headed_where_it_stood_first():
+    made = plain_report("ctm,1\nsteps,9\ngate,g,9,0\nroad,a,60,9,1,5,0\nroad,b,60,9,1,5,0\nroad,t,60,9,1,5,0\nlink,g,t\nmerge,b,t,a,1,1\nlink,a,b\n")
+    # Each cell comes to stand while the one behind it does: a and b first, and t, which leads to a, from step 3 on.
+    assert heads(made, {"t": [(3, 9)], "a": [(0, 4), (6, 9)], "b": [(0, 6), (8, 9)]}) == [(0, "a")]
 
 
 def test_queues_in_gates_alone_are_counted_by_their_vehicles():
@@ -251,7 +258,7 @@ def test_a_queue_that_reaches_the_upstream_end_is_told_with_who_wait_behind_it()
     spill, = spills(read, queue)
     # All that come and don't fit on the road wait in the gate; at the last step 6 come, and at most 2 go in.
     assert spill.gate == "g" and spill.most_at == 219
-    assert spill.most == pytest.approx(read.occupancy.g[219] - read.flow.g[219])
+    assert spill.most == pytest.approx(read.vehicles.g[219] - (read.left.g[220] - read.left.g[219]))
     line, = [line for line in page(read) if "upstream end" in line]
     assert line == (f"  The queue of c09 reaches the upstream end of the model at {spill.start}: up to {spill.most:,.0f} vehicles "
                     "wait in the gate g, at 219, so it is longer than told.")
@@ -280,6 +287,22 @@ def test_a_queue_that_begins_in_a_gate_is_told_as_before(report):
 @pytest.mark.parametrize("vehicles, stands", [(0.102, True), (0.098, False)])
 def test_a_cell_that_holds_less_than_a_tenth_of_a_vehicle_is_empty(vehicles, stands):
     rows = "".join(f"at,{step},a,{vehicles},0\n" for step in range(3))
-    report = report_of(f"report,2,1\n{rows}cell,a,{vehicles},{vehicles},0,1\ntotal,{vehicles},{vehicles},0,1\n".encode(), "c")
+    report = report_of(f"report,2,1\n{rows}cell,a,{vehicles},{vehicles},0,{2 * vehicles}\ntotal,{vehicles},{vehicles},0,{2 * vehicles}\n".encode(), "c")
     report.network = network_of(b"ctm,1\nsteps,2\nroad,a,60,9,1,5,0\n")
     assert standing(report).a.tolist() == [stands] * 2
+
+
+PLATOONS = ("ctm,1\nsteps,600\ngate,g,9,0\nexit,x,9\n" + "".join(f"road,c{i:02d},60,9,1,5,0\n" for i in range(20)) +
+            "road,d,40,5,1,5,0\n" + "".join(f"link,{up},{down}\n" for up, down in zip(
+                ["g", *(f"c{i:02d}" for i in range(20)), "d"], [*(f"c{i:02d}" for i in range(20)), "d", "x"])) +
+            "".join(f"demand,g,{step},{step + 6},9\n" for step in range(0, 300, 15)))
+
+
+@pytest.mark.parametrize("every", [1, 7, 60])
+def test_queues_cost_no_more_than_their_cells_have_waited_whatever_is_recorded(every):
+    made = plain_report(PLATOONS, every)
+    queues = queues_in(made)
+    assert sum(queue.delay for queue in queues) <= made.total.delay + 1e-6
+    for queue in queues:
+        assert queue.delay <= made.cells.wait[list(queue.spans)].sum() + 1e-6
+    assert queues or every == 60

@@ -13,11 +13,11 @@ INSIDE = sorted([*TOP.glob("docs/inside/*.md"), TOP / "CONTRIBUTING.md"])
 USERS = sorted([TOP / "README.md", TOP / "tools/README.md", TOP / "examples/README.md", *TOP.glob("docs/*.md"),
                 *TOP.glob("docs/how-to/*.md"), *TOP.glob("tools/docs/*.md")])
 BOTH = [str(path.relative_to(TOP)) for path in [*USERS, *INSIDE]]
-MOST_PROSE, MOST_WITH_TABLES = 26_200, 40_000
+MOST_PROSE, MOST_WITH_TABLES = 26_500, 40_600
 LONGEST = 40  # words of a sentence
 # Sentences that are longer, by their pages and first words: lists of files, commands or titles, and what others wrote.
 LONGER = [
-    ("CONTRIBUTING.md", "Outside the full check, in `bench`"),
+    ("CONTRIBUTING.md", "Outside the check, in `bench`"),
 ]
 
 

@@ -6,7 +6,10 @@ import time
 
 import pytest
 
-from ctmtools import Problem, program, progress, running
+from ctmtools import Problem
+from ctmtools.program import calls as program
+from ctmtools.commands import progress
+from ctmtools.runs import running
 from ctmtools.command_line import main
 from ctmtools.moments import runner
 

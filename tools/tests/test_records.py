@@ -7,7 +7,7 @@ import pytest
 from ctmtools.network_file.faults import first_fault
 from ctmtools.network_file.kinds import NUMBERS
 from ctmtools.network_file.records import ends_of_lines, line_of, read_records
-from ctmtools.program import ask
+from ctmtools.program.calls import ask
 
 from .examples import EXAMPLES
 

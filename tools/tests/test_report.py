@@ -4,6 +4,7 @@ import warnings
 from types import SimpleNamespace
 
 import pandas
+import plain_model
 import pytest
 
 from ctmtools import Problem, queues_of, read_report, states, totals
@@ -14,18 +15,18 @@ from ctmtools.report.routes import kilometres, route_of
 from ctmtools.units import Units
 
 from .examples import EXAMPLES, save_report
-from .plain_reports import at_a_light
+from .plain_reports import at_a_light, plain_report
 
 
 def test_the_states_are_in_the_units_of_the_road(report):
     frame = states(report("bottleneck"))
-    assert list(frame.columns)[:6] == ["time", "cell", "occupancy", "flow", "density", "speed"]
-    assert frame.attrs["units"] == {"time": "time of day", "occupancy": "vehicles", "flow": "vehicles/h",
+    assert list(frame.columns)[:6] == ["time", "cell", "vehicles", "flow", "density", "speed"]
+    assert frame.attrs["units"] == {"time": "time of day", "vehicles": "vehicles", "flow": "vehicles/h",
                                     "density": "vehicles/km", "speed": "km/h"}
     quarter_to_eight = frame[frame.time == "1900-01-01 07:45"]
     row = quarter_to_eight[quarter_to_eight.cell == "m19"].iloc[0]
     # In the queue a cell of 250 m holds 48 vehicles, of which 12 leave in a step of 10 s: a quarter of 90 km/h.
-    assert (row.occupancy, row.flow, row.density, row.speed) == pytest.approx((48, 4320, 192, 22.5), abs=1e-3)
+    assert (row.vehicles, row.flow, row.density, row.speed) == pytest.approx((48, 4320, 192, 22.5), abs=1e-3)
     free = quarter_to_eight[quarter_to_eight.cell == "m25"].iloc[0]
     assert (free.flow, free.density, free.speed) == pytest.approx((4320, 48, 90))
     gate = quarter_to_eight[quarter_to_eight.cell == "on"].iloc[0]
@@ -120,15 +121,14 @@ def test_the_states_where_no_units_are_known(reports, tmp_path):
         (tmp_path / f"b{ending}").write_bytes(source.with_suffix(ending).read_bytes())
     frame = states(read_report(tmp_path / "b.report"))
     row = frame[(frame.cell == "m19") & (frame.time == 630)].iloc[0]
-    assert (row.occupancy, row.flow, row.density, row.speed) == pytest.approx((48, 12, 48, 0.25), abs=1e-3)
+    assert (row.vehicles, row.flow, row.density, row.speed) == pytest.approx((48, 12, 48, 0.25), abs=1e-3)
     assert frame.attrs["units"]["flow"] == "vehicles in a step"
 
 
 def test_states_of_sparse_records_keep_the_flow(reports, tmp_path):
     dense, sparse = read_report(reports("interchange")), read_report(save_report(tmp_path, "interchange", every=7))
     assert list(sparse.times[:2]) == [0, 7] and sparse.times[-1] == sparse.steps
-    gone = (sparse.flow.mul([b - a for a, b in zip(sparse.times, sparse.times[1:])], axis=0)).sum()
-    assert gone.to_numpy() == pytest.approx(dense.cells.gone.to_numpy())
+    assert sparse.passed.sum(axis=0) == pytest.approx(dense.cells.gone.to_numpy())
     assert queues_in(sparse)[0].origin == "r2"
 
 
@@ -149,26 +149,41 @@ def test_compare(report):
     assert list(frame.index[:4]) == ["c08", "c12", "c16", "c20"]
     assert frame.delay_rise.sum() == pytest.approx(-26.25)
     other = compare(report("event-one"), report("event"))
-    assert other.loc["town", "gone_second"] == pytest.approx(3002.000956) and other.loc["e01"].isna().any()
+    assert other.loc["town", "left_second"] == pytest.approx(3002.000956) and other.loc["e01"].isna().any()
 
 
 def test_where_nobody_waits_nothing_is_divided():
     with warnings.catch_warnings():
         warnings.simplefilter("error")
-        assert not at_a_light(0).waited.to_numpy().any()
+        assert not at_a_light(0).waited.any()
+
+
+def test_what_waits_in_a_last_interval_that_is_shorter():
+    """Six vehicles in a gate whose exit takes none wait 6 vehicle-steps a step, in all 60 in 10 steps."""
+    report = plain_report("ctm,1\nsteps,10\ngate,g,9,6\nexit,x,0\nlink,g,x\n", every=4)
+    assert report.waited[:, report.place("g")].tolist() == pytest.approx([24, 24, 12])
+
+
+def test_what_waits_between_records_is_divided_evenly_over_time():
+    """A vehicle that comes to the light in step 6 waits until the green of step 10, and at each recorded step the cell is empty."""
+    report = plain_report("ctm,1\nsteps,40\ngate,g,9,0\nroad,a,60,9,1,5,0\nexit,x,9\nlink,g,a\nlink,a,x\nsignal,a,10,0,0,5\n"
+                          "demand,g,4,5,1\n", every=15)
+    assert report.vehicles.a.tolist() == [0, 0, 0, 0]
+    wait = report.cells.wait["a"]
+    assert wait > 0 and report.waited[:, report.place("a")].tolist() == pytest.approx([wait * 15 / 40, wait * 15 / 40, wait * 10 / 40])
 
 
 def test_a_cell_of_one_report_alone_rises_from_nothing_or_falls_to_it():
     one, two = (SimpleNamespace(units=Units(), cells=pandas.DataFrame({"wait": wait, "gone": gone, "come": gone}, index=names))
                 for names, wait, gone in ((["a", "b"], [3, 1], [5, 7]), (["b", "c"], [2, 9], [8, 6])))
     frame = compare(one, two)
-    assert frame.delay_rise.to_dict() == {"c": 9, "a": -3, "b": 1} and frame.gone_rise.to_dict() == {"c": 6, "a": -5, "b": 1}
+    assert frame.delay_rise.to_dict() == {"c": 9, "a": -3, "b": 1} and frame.left_rise.to_dict() == {"c": 6, "a": -5, "b": 1}
 
 
 def test_totals_of_a_report_without_records():
     frame = totals(read_report(EXAMPLES / "bottleneck.report"))
     assert frame.delay.sum() == pytest.approx(166050)
-    assert list(frame.columns) == ["cell", "occupancy", "come", "gone", "delay"]
+    assert list(frame.columns) == ["cell", "vehicles", "entered", "left", "delay"]
 
 
 @pytest.mark.parametrize("content", [b"", b"report,3\n", b"report,3,1\ntotal,0,0,0,0\n",
@@ -176,6 +191,29 @@ def test_totals_of_a_report_without_records():
                                      b"report,1,1\nat,0,x,0,0\nat,1,x,0\ncell,x,1,1,1,1\ntotal,1,1,1,1\n",
                                      b"report,1,1\nat,0,x,0,0\nit,1,x,0,0\ncell,x,1,1,1,1\ntotal,1,1,1,1\n",
                                      b"ctm,1\nsteps,3\n", b"report,1,1\nat,0,y,0,0\ncell,x,1,1,1,1\ntotal,1,1,1,1\n"])
-def test_no_report(content):
-    with pytest.raises(Problem):
-        report_of(content)
+def test_no_report(content, tmp_path):
+    (tmp_path / "b.report").write_bytes(content)
+    with pytest.raises(Problem, match="b.report: (no report of ctm|this report is cut short or isn't one of ctm)"):
+        read_report(tmp_path / "b.report")
+
+
+def test_records_are_read_when_they_are_asked_for():
+    whole = plain_model.report((EXAMPLES / "interchange.csv").read_bytes(), 1)
+    report = report_of(whole.replace(b"at,5,m02,", b"at,5,m02,x"))
+    assert report.recorded and report.total.left == report_of(whole).total.left
+    with pytest.raises(Problem, match="cut short"):
+        states(report)
+
+
+@pytest.mark.parametrize("amount", ["1.2.3", "12345678.9012345", "x.000000", "1.00000/", "1.00000:", "-1.000000", "", "/.000000", "1 .000000"])
+def test_an_amount_of_a_record_is_a_number(amount):
+    report = report_of(f"report,1,1\nat,0,x,1.000000,0.000000\nat,1,x,{amount},0.000000\ncell,x,1,1,1,1\ntotal,1,1,1,1\n".encode())
+    with pytest.raises(Problem, match="cut short"):
+        report.records.read()
+
+
+@pytest.mark.parametrize("amount, parts", [("0.000000", 0), ("10000000.000000", 10 ** 13), ("9876543.210987", 9876543210987), ("7", 7 * 10 ** 6),
+                                           ("123456789.5", 123456789500000), ("3.25", 3250000)])
+def test_the_parts_of_an_amount(amount, parts):
+    report = report_of(f"report,1,1\nat,0,x,{amount},0.000001\nat,1,x,0.000009,{amount}\ncell,x,1,1,1,1\ntotal,1,1,1,1\n".encode())
+    assert report.records.vehicles.tolist() == [[parts], [9]] and report.records.left.tolist() == [[1], [parts]]

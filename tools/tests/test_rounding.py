@@ -7,9 +7,8 @@ import pytest
 from ctmtools import build, read_study
 from ctmtools.plans.timing import Timing
 from ctmtools.study.reading import read_values
-from ctmtools.study.rounding import Rounded, Rounding, rounded_text
-from ctmtools.study.scale import Scale
-from ctmtools.sweeps.variations import variation_of
+from ctmtools.study.scale import Rounded, Rounding, Scale, rounded_text
+from ctmtools.many_runs.variations import variation_of
 
 from .corridor import corridor
 from .examples import EXAMPLES

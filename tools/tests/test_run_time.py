@@ -4,13 +4,13 @@ import re
 
 import pytest
 
-from ctmtools import run_time, progress
+from ctmtools.commands import progress
 from ctmtools.network_file.network import network_of
 from ctmtools.problem import Problem
-from ctmtools.run_time import estimated
-from ctmtools.running import Prepared
+from ctmtools.runs import running
+from ctmtools.runs.running import Prepared, estimated
 from ctmtools.units import Units
-from ctmtools.progress import lasting, left
+from ctmtools.commands.progress import lasting, left
 
 from .clusters import wait_until
 from .examples import EXAMPLES
@@ -25,8 +25,8 @@ class Program:
 
     def __init__(self, each, beside, monkeypatch):
         self.each, self.beside, self.now, self.asked = each, beside, 0.0, []
-        monkeypatch.setattr(run_time, "run", self.run)
-        monkeypatch.setattr(run_time.time, "monotonic", lambda: self.now)
+        monkeypatch.setattr(running, "run", self.run)
+        monkeypatch.setattr(running.time, "monotonic", lambda: self.now)
 
     def run(self, content, name, units, every, workers, network):
         assert network_of(content).steps == network.steps
@@ -57,7 +57,7 @@ def test_first_steps_that_take_no_time_are_no_less(monkeypatch):
 def test_what_is_wrong_with_a_run_is_told_by_the_run_itself(monkeypatch):
     def fails(*_, **__):
         raise Problem("n.csv: ctm: network: record 3 code 13 NoCells")
-    monkeypatch.setattr(run_time, "run", fails)
+    monkeypatch.setattr(running, "run", fails)
     assert estimated(prepared(200)) is None
 
 

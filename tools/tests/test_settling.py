@@ -3,12 +3,12 @@
 import re
 
 import numpy
-import pandas
 import pytest
 
 from ctmtools import read_study
-from ctmtools.report.reading import Report
-from ctmtools.running import run
+from ctmtools.report.reading import Amounts, Report, Sums
+from ctmtools.report.records import Records
+from ctmtools.runs.running import run
 from ctmtools.study.network_text import build
 from ctmtools.yielding import settling
 from ctmtools.yielding.settling import Settled, settled
@@ -51,7 +51,7 @@ def settle(tmp_path):
         reports = {steps: run(built.text.encode(), "study", built.units, steps, network=built.network)[1] for steps in every}
         recorded.extend(list(report.times) for report in reports.values())
         return reports
-    return settled(read_study(write(tmp_path, ODD)), run_built), recorded
+    return settled(read_study(write(tmp_path, ODD)).scenario, run_built), recorded
 
 
 def test_runs_are_recorded_at_the_ends_of_intervals_alone(tmp_path, recording_program, monkeypatch):
@@ -78,9 +78,10 @@ def test_intervals_that_others_divide_need_no_records_of_their_own():
 def side_report(built, main):
     """A report in which so many vehicles/h leave the road with priority all the time."""
     steps, units = built.network.steps, built.units
-    gone = {cell: [0.0, main * steps * units.step / 3600 * (cell == units.roads["before"][-1])] for cell in built.network.cells.index}
-    frame = pandas.DataFrame(gone, index=[0, steps])
-    return Report(steps, frame, frame.iloc[0], numpy.array([0, steps]), frame, frame, units)
+    names = list(built.network.kinds)
+    gone = numpy.array([main * steps * units.step / 3600 * (cell == units.roads["before"][-1]) for cell in names])
+    amounts, left = Amounts(n=0 * gone, come=gone, gone=gone, wait=0 * gone), [0 * gone, gone]
+    return Report(steps, names, amounts, Sums(0, 0, 0, 0), Records.of_vehicles([0, steps], left, left), units)
 
 
 def settle_by(tmp_path, flows):
@@ -95,7 +96,7 @@ def settle_by(tmp_path, flows):
         limits.extend(float(amount) * 1800 for amount in found)
         main = flows[min(len(counted), len(flows) - 1)]
         return {steps: side_report(built, main) for steps in every}
-    study = read_study(write(tmp_path, SIDE.format(main=600, low=300, high=300)))
+    study = read_study(write(tmp_path, SIDE.format(main=600, low=300, high=300))).scenario
     return settled(study, run_built, lambda runs, text: counted.append(runs)), limits, counted
 
 
@@ -119,6 +120,6 @@ def test_limits_that_swing_go_less_than_half_way_and_end_after_20_runs(tmp_path)
 
 @pytest.mark.parametrize("moved, doubt", [(0.01, ""), (0.011, "who gives way isn't settled after 20 runs, a limit moves by 1.1%")])
 def test_a_limit_that_would_move_by_just_a_hundredth_is_settled(tmp_path, moved, doubt):
-    study = read_study(write(tmp_path, SIDE.format(main=600, low=300, high=300)))
+    study = read_study(write(tmp_path, SIDE.format(main=600, low=300, high=300))).scenario
     found = Settled(study, build(study), 20, moved)
     assert (found.is_settled, found.doubt) == (not doubt, doubt)

@@ -6,7 +6,9 @@ import subprocess
 import pytest
 from books import BOOKS, navigation
 from built_pages import Sections, broken_links, write_index
+from function_pages import PAGE as FUNCTIONS
 from gathering import CODE, LINK, gather, pages
+from theorem_pages import theorem_pages
 
 from .examples import TOOLS
 
@@ -48,7 +50,7 @@ def in_order(inside):
 
 def test_each_page_stands_once_and_in_the_book_that_names_it():
     books = {title: inside for book in navigation() for title, inside in book.items()}
-    assert sorted(in_order(navigation())) == sorted(map(str, pages()))
+    assert sorted(in_order(navigation())) == sorted(map(str, [*pages(), *theorem_pages(), FUNCTIONS]))
     assert list(books)[:3] == ["ctm", *BOOKS]
     assert set(in_order(books["For who carries it on"])) >= {
         str(path) for path in pages() if path.parts[:2] == ("docs", "inside")}

@@ -1,6 +1,5 @@
 """Means over spans of time, of a red light worked out step by step: as GeoJSON, by road, and as travel times."""
 
-import numpy
 import pytest
 
 from ctmtools.exports.geojson import collection, features
@@ -40,7 +39,7 @@ def test_gates_have_no_density_and_the_whole_run_no_spans():
     assert gate["flow"] == 0.075 and "density" not in gate and "speed" not in gate
     report = at_a_light(0, 3, 7)
     whole = [row["properties"] for row in features(report) if row["properties"]["cell"] == "a"]
-    assert whole == [{"cell": "a", "kind": "road", "gone": 3, "delay": 6}]
+    assert whole == [{"cell": "a", "kind": "road", "left": 3, "delay": 6}]
     assert collection(report)["units"] == {"delay": "vehicle-steps", "flow": "vehicles in a step", "density": "vehicles in a cell",
                                            "speed": "cells in a step", "coordinates": "local, of a schematic map in cells"}
 
@@ -50,7 +49,7 @@ def test_a_road_of_the_light_by_ten_steps():
     report.units.roads = {"a": ["a"]}
     frame = by_road(report, 10)
     rows = frame[frame.road == "a"]
-    assert rows.step.tolist() == [0, 10, 20, 30] and rows.vehicles.tolist() == [1, 2, 0, 0] and rows.flow.tolist() == [0.1, 0.2, 0, 0]
+    assert rows.step.tolist() == [0, 10, 20, 30] and rows.left.tolist() == [1, 2, 0, 0] and rows.flow.tolist() == [0.1, 0.2, 0, 0]
     assert rows.density.tolist() == pytest.approx([0.7, 0.2, 0, 0]) and rows.delay.tolist() == pytest.approx([6, 0, 0, 0])
     assert rows.speed.tolist()[:2] == pytest.approx([1 / 7, 1]) and rows.speed.isna().tolist() == [False, False, True, True]
     assert rows.delay_each.tolist()[:2] == pytest.approx([6, 0]) and rows.queue.tolist() == [1, 0, 0, 0]
@@ -74,7 +73,7 @@ def test_a_span_is_no_shorter_than_a_record():
 def test_travel_times_by_ten_steps():
     frame = travel_times(at_a_light(0, 3, 7, 12), ["a"], 10)
     # Those of the steps 0, 3 and 7 need 1, 5.75 and 2.25 steps; the fourth enters at 13.5, while it is green.
-    assert frame.step.tolist() == [0, 10] and frame.entered.tolist() == [0, 10] and frame.vehicles.tolist() == pytest.approx([3, 1])
+    assert frame.step.tolist() == [0, 10] and frame.time.tolist() == [0, 10] and frame.entered.tolist() == pytest.approx([3, 1])
     assert frame["mean"].tolist() == pytest.approx([3, 1]) and frame.least.tolist() == pytest.approx([1, 1])
     assert frame.most.tolist() == pytest.approx([5.75, 1]) and frame.free.tolist() == [1, 1] and frame.delay.tolist() == pytest.approx([2, 0])
     assert frame.speed.isna().all()
@@ -90,7 +89,7 @@ def test_states_of_a_report_without_its_network():
     report.network = None
     frame = states(report)
     row = frame[(frame.cell == "a") & (frame.step == 9)].iloc[0]
-    assert (row.occupancy, row.flow, row.density, row.speed) == (2, 0, 2, 0) and frame[frame.cell == "g"].density.tolist()[:3] == [0, 1, 0]
+    assert (row.vehicles, row.flow, row.density, row.speed) == (2, 0, 2, 0) and frame[frame.cell == "g"].density.tolist()[:3] == [0, 1, 0]
     assert frame.time.tolist()[:4] == [0, 0, 0, 1] and frame[frame.step == 40].flow.isna().all()
 
 
@@ -99,16 +98,18 @@ def test_ends_and_queues_in_hours():
     report.units = Units(step=1800, start=0)
     ends = totals(report, value_of_time=12)
     # Six steps of half an hour.
-    assert ends.delay.tolist() == [0, 3, 0] and ends.cost.tolist() == [0, 36, 0] and ends.come.tolist() == [3, 3, 3]
+    assert ends.delay.tolist() == [0, 3, 0] and ends.cost.tolist() == [0, 36, 0] and ends.entered.tolist() == [3, 3, 3]
     queue = queues_of(report).iloc[0]
     assert (queue.cell, queue.delay, queue.most_waiting) == ("a", 3, 2) and str(queue.began) == "1900-01-01 02:30:00"
     assert str(queue.most_at) == "1900-01-01 04:30:00" and str(queue.cleared) == "1900-01-01 05:00:00"
 
 
-def test_records_that_stand_apart_have_the_mean_of_both_ends():
+def test_the_time_spent_between_records_that_stand_apart():
     text = b"report,10,1\n" + b"".join(b"at,%d,c,%d,%d\n" % row for row in ((0, 0, 0), (4, 8, 4), (5, 6, 7), (10, 2, 12))) + \
         b"cell,c,2,14,12,20\ntotal,2,14,12,20\n"
     report = report_of(text)
-    # 4 vehicles go out in 4 steps, 3 in one and 5 in five; between two steps that follow each other it holds what it held.
-    assert report.flow.c.tolist() == [1, 3, 1] and report.held.c.tolist() == [4, 8, 4] and report.times.tolist() == [0, 4, 5, 10]
-    assert report.recorded and numpy.diff(report.departed.c).tolist() == [4, 3, 5]
+    assert report.recorded and report.passed[:, 0].tolist() == [4, 3, 5] and report.times.tolist() == [0, 4, 5, 10]
+    # Evenly from 0 to 8 it holds 0, 2, 4 and 6, then 8, then 6, 5.2, 4.4, 3.6 and 2.8. What doesn't leave of these 12, 8 and 22 are 8, 5
+    # and 17; of the 20 that the program says have waited each has two thirds of that.
+    assert report.waited[:, 0].tolist() == pytest.approx([16 / 3, 10 / 3, 34 / 3])
+    assert report.spent[:, 0].tolist() == pytest.approx([4 + 16 / 3, 3 + 10 / 3, 5 + 34 / 3])

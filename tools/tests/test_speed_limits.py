@@ -12,7 +12,7 @@ import pytest
 
 from ctmtools import Problem, build, read_study
 from ctmtools.assignment.assigning import Assignment
-from ctmtools.exports.geojson import _spans
+from ctmtools.exports.geojson import features
 from ctmtools.moments.agreement import difference
 from ctmtools.moments.metering import critical, gauge_of
 from ctmtools.moments.runner import Runner
@@ -23,14 +23,14 @@ from ctmtools.network_file.network import network_of
 from ctmtools.network_file.pace import pace_of
 from ctmtools.network_file.records import read_records
 from ctmtools.plots import roadside, time_space, travel
-from ctmtools.pages.limits import speed_limits
-from ctmtools.program import ask
+from ctmtools.pages.networks import speed_limits
+from ctmtools.program.calls import ask
 from ctmtools.report.comparability import other_lanes_and_speeds
 from ctmtools.report.queues import queues_in, standing
 from ctmtools.report.states import states
 from ctmtools.report.summary import page
 from ctmtools.report.travel import road_times, travel_times
-from ctmtools.running import opened
+from ctmtools.runs.running import opened
 from ctmtools.study.plan import Meter
 from ctmtools.units import Units
 
@@ -123,16 +123,16 @@ def test_what_is_refused(tmp_path, limit, told):
 
 def test_driving_at_a_limit_is_delay_and_no_queue(tmp_path):
     read = reported(corridor(tmp_path, SIXTY, demand=1080))
-    assert read.occupancy.loc[300, ["m1", "m2", "m3", "m4"]].tolist() == pytest.approx([4.5] * 4, abs=1e-4)
+    assert read.vehicles.loc[300, ["m1", "m2", "m3", "m4"]].tolist() == pytest.approx([4.5] * 4, abs=1e-4)
     frame = states(read)
     row = frame[(frame.step == 300) & (frame.cell == "m3")]
     assert row.speed.item() == pytest.approx(60, abs=0.01) and row.speed_limit.item() == pytest.approx(60)
     assert frame.attrs["units"]["speed_limit"] == "km/h" and frame[frame.cell == "g"].speed_limit.isna().all()
     assert not standing(read).to_numpy().any() and queues_in(read) == []
     # Each who has left a cell has lost half a step there.
-    assert read.slowed.to_numpy().sum() == pytest.approx(read.cells.gone[["m1", "m2", "m3", "m4"]].sum() / 2, abs=0.01)
-    assert read.cells.wait[["m1", "m2", "m3", "m4"]].sum() == pytest.approx(read.slowed.to_numpy().sum(), rel=1e-4)
-    hours = read.units.hours(read.slowed.to_numpy().sum())
+    assert read.slowed.sum() == pytest.approx(read.cells.gone[["m1", "m2", "m3", "m4"]].sum() / 2, abs=0.01)
+    assert read.cells.wait[["m1", "m2", "m3", "m4"]].sum() == pytest.approx(read.slowed.sum(), rel=1e-4)
+    hours = read.units.hours(read.slowed.sum())
     assert f"          {hours:,.2f} of these by driving at the speed limits, and not in queues" in list(page(read))
 
 
@@ -140,7 +140,7 @@ def test_the_limit_of_a_time_in_a_table_and_for_a_map(tmp_path):
     read = reported(corridor(tmp_path, PART, demand=1080))
     own = states(read)[lambda frame: frame.cell == "m3"].set_index("step").speed_limit
     assert own[60] == pytest.approx(60) and own[239] == pytest.approx(60) and own[[59, 240]].isna().all()
-    spans = [terms["speed_limit"] for terms in _spans(read, "m3", 1200)]
+    spans = [row["properties"]["speed_limit"] for row in features(read, 1200) if row["properties"]["cell"] == "m3"]
     assert spans == [75, 60, None]  # the mean of 10 min at 90 and 10 at 60 km/h
     assert "speed_limit" not in states(reported(corridor(tmp_path)))
 
@@ -158,7 +158,7 @@ def test_a_queue_within_a_limit_stands_where_traffic_is_slower_than_80_percent_o
     assert read.units.clock(queue.start, True)[:5] == "06:10" and 60 <= queue.most <= 64.5
     # 60 steps in which 0 to 60 wait, and then 6 more pass in each than come: 3,987.69/360 - 3 = 8.077 at most.
     assert queue.delay == pytest.approx(60 * 60 / 2 + 60 * 60 / 8.077 / 2, rel=0.05)
-    assert read.cells.wait.sum() == pytest.approx(queue.delay + read.slowed.to_numpy().sum(), rel=0.06)
+    assert read.cells.wait.sum() == pytest.approx(queue.delay + read.slowed.sum(), rel=0.06)
 
 
 def test_the_travel_time_at_free_flow_is_at_the_limits_in_force(tmp_path):
@@ -247,7 +247,7 @@ def test_a_difference_in_the_units_of_a_study():
 
 def assigned(folder, limit):
     (folder / "s.toml").write_text(TWO_WAYS + limit)
-    made = Assignment(read_study(folder / "s.toml"))
+    made = Assignment(read_study(folder / "s.toml").scenario)
     made.start()
     return made
 

@@ -45,7 +45,7 @@ ROAD = "[roads.m]\nlength = 1\nlanes = 2\n[gates.g]\ninto = \"m\"\ndemand = 1000
 def study(tmp_path, text):
     path = tmp_path / "study.toml"
     path.write_text(text)
-    return read_study(path)
+    return read_study(path).scenario
 
 
 def built(tmp_path, text):

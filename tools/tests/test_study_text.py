@@ -5,7 +5,7 @@ from fractions import Fraction
 
 import pytest
 
-from ctmtools.study.writing import _decimal, _value, study_text
+from ctmtools.study.writing import _decimal, study_text, value_text
 
 
 @pytest.mark.parametrize("number, text", [
@@ -14,13 +14,13 @@ from ctmtools.study.writing import _decimal, _value, study_text
     # A half thirty times over has thirty decimals, which are written; one more has more than that.
     (Fraction(1, 2**30), "0." + str(5**30).rjust(30, "0")), (Fraction(1, 2**31), "0.000000000")])
 def test_numbers(number, text):
-    assert _decimal(number) == text and _value(number) == text
+    assert _decimal(number) == text and value_text(number) == text
 
 
 def test_other_values():
-    assert _value(True) == "true" and _value(False) == "false" and _value(datetime.time(6, 30)) == "06:30:00" and _value(7) == "7"
-    assert _value([Fraction(1, 2), "a"]) == '[0.5, "a"]' and _value({}) == "{}" and _value({"a b": 1}) == '{ "a b" = 1 }'
-    assert _value('say "\\"\t') == '"say \\"\\\\\\" "'
+    assert value_text(True) == "true" and value_text(False) == "false" and value_text(datetime.time(6, 30)) == "06:30:00" and value_text(7) == "7"
+    assert value_text([Fraction(1, 2), "a"]) == '[0.5, "a"]' and value_text({}) == "{}" and value_text({"a b": 1}) == '{ "a b" = 1 }'
+    assert value_text('say "\\"\t') == '"say \\"\\\\\\"\\t"'
 
 
 def test_tables_stand_behind_what_is_none():

@@ -14,7 +14,8 @@ from ctmtools.imports.streets import Said, Streets
 from ctmtools.imports.sumo import read_network
 from ctmtools.imports.sumo_routes import Routes
 from ctmtools.imports.sumo_trips import read_trips
-from ctmtools.imports.tally import tally
+from ctmtools.imports.traffic import tally
+from ctmtools.study import folder
 
 # From a streets lead into b and c, for all, and into v, for vip alone; a's left lane is for buses, which may turn into w.
 NET = """<net>
@@ -193,6 +194,15 @@ def test_types_routes_and_vehicles_of_additional_and_included_files_are_read(imp
     assert ", 7 vehicles" in out and {line.split()[0]: line.split()[-1] for line in out.splitlines()}["bus"] == "6"
 
 
+def test_included_files_of_another_folder_are_to_be_allowed(imported, tmp_path, monkeypatch):
+    monkeypatch.setattr(folder, "_allowed", {})
+    (tmp_path / "t.add.xml").write_text('<add><include href="../other/more.xml"/></add>')
+    other = tmp_path.parent / "other"
+    other.mkdir()
+    (other / "more.xml").write_text('<routes><trip id="2" depart="5" from="a" to="c"/></routes>')
+    assert ", 6 vehicles" in imported(FLOW.format('number="5"'), "--additional", "t.add.xml", "--allow-files", str(other))
+
+
 def test_a_packed_file_is_read(tool, tmp_path):
     for name, text in (("n.net.xml.gz", NET), ("n.rou.xml.gz", f"<routes>{FLOW.format('number=%s5%s' % (chr(34), chr(34)))}</routes>")):
         (tmp_path / name).write_bytes(gzip.compress(text.encode()))
@@ -224,7 +234,10 @@ def test_an_import_of_nothing_says_why(tool, imported, tmp_path):
      "flow f: has nothing with a probability above 0"),
     ('<routeDistribution id="d"/><flow id="f" number="3" route="d"/>', "flow f: has nothing with a probability above 0"),
     ('<vType id="t" length="long"/>', 'vType t: length: expected a number of 0 or more, found "long"'),
-    ('<include href="n.rou.xml"/>', "includes n.rou.xml, which includes it")])
+    ('<include href="n.rou.xml"/>', "includes n.rou.xml, which includes it"),
+    ('<include href="../secret.xml"/>', "../secret.xml lies outside of the file's folder; --allow-files "),
+    ('<include href="/dev/zero"/>', "/dev/zero lies outside of the file's folder"),
+    ('<variableSpeedSign id="v" lanes="a_0" file="../secret.xml"/>', "../secret.xml lies outside of the file's folder")])
 def test_what_sumo_refuses_is_refused_with_its_place(tmp_path, elements, wanted):
     with pytest.raises(Problem) as found:
         routes_of(tmp_path, elements)
@@ -233,7 +246,11 @@ def test_what_sumo_refuses_is_refused_with_its_place(tmp_path, elements, wanted)
 
 @pytest.mark.parametrize("text, wanted", [
     (NET.replace('speed="25"', 'speed="fast"'), "n.net.xml: expected a number: could not convert"), ("<net/>", "n: has no street for cars"),
-    (NET.replace("<net>", '<net><location netOffset="0,0" projParameter="+proj=none"/>'), "n.net.xml: projParameter: expected a coordinate system")])
+    (NET.replace("<net>", '<net><location netOffset="0,0" projParameter="+proj=none"/>'), "n.net.xml: projParameter: expected a coordinate system"),
+    *((NET.replace("<net>", f"<net><location netOffset='0,0' projParameter='{text}'/>"), "n.net.xml: projParameter: names a file") for text in (
+        "+init=/dev/zero:x", "+proj=utm +zone=32 +init=secret:x", "+proj=tmerc +ellps=bessel +nadgrids=secret", "+proj=utm +zone=32 +geoidgrids = secret",
+        'BOUNDCRS[SOURCECRS[],PARAMETERFILE["shift","secret"]]')),
+    (NET.replace("<net>", '<net><location netOffset="0,0" projParameter="+proj=merc +R=1737400"/>'), "n.net.xml: projParameter: no way is known from ")])
 def test_networks_that_cannot_be_meant_are_refused(tool, tmp_path, text, wanted):
     (tmp_path / "n.net.xml").write_text(text)
     status, out, err = tool("import", "sumo", "n.net.xml")

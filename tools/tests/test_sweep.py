@@ -10,11 +10,11 @@ from fractions import Fraction
 
 import pytest
 
+from ctmtools.many_runs import workers
+from ctmtools.many_runs.task import Task, fingerprint
+from ctmtools.many_runs.variations import changed, combinations, variation
 from ctmtools.problem import Problem
-from ctmtools.sweeps import workers
-from ctmtools.sweeps.results import Results
-from ctmtools.sweeps.task import Task, fingerprint, measure
-from ctmtools.sweeps.variations import changed, combinations, variation
+from ctmtools.sweeps.sweeping import SweptRows, measure
 from ctmtools.study.reading import read_values
 
 from .clusters import PATIENCE, at_row, kill_a_worker, two_workers, wait_until
@@ -49,17 +49,40 @@ def test_changes_of_a_study():
             changed(values, {key: 1})
 
 
+def of_run(one):
+    return workers.apart(measure, one)
+
+
 def test_a_run_is_measured(plain):
-    measured = measure(task(plain, **{"signals.offset": Fraction(40)}))
+    measured = of_run(task(plain, **{"signals.offset": Fraction(40)}))
     # 21 cells of 10 s with the gate, and 6.75 vehicle-hours of 1,080 vehicles.
     assert measured == {"delay_vehicle_hours": pytest.approx(6.75), "longest_queue_km": pytest.approx(0.125),
-                        "most_waiting_vehicles": pytest.approx(18), "served_vehicles": 1080, "inside_vehicles": 0,
+                        "most_waiting_vehicles": pytest.approx(18), "left_vehicles": 1080, "inside_vehicles": 0,
                         "travel_time_min": pytest.approx((210 + 22.5) / 60, abs=0.01), "waiting_upstream_vehicles": 0,
                         "rounded": "", "error": ""}
-    assert "length of road c: 2.5 km asked, 2.5375 km modelled and" in measure(task(plain, step=Fraction(7)))["rounded"]
-    assert measure(task(plain, **{"demand": Fraction(2)}))["served_vehicles"] > 1080
-    assert "no such key" in measure(task(plain, **{"signals.ofset": 40}))["error"]
-    assert "no program" in measure(task("/none"))["error"]
+    assert "length of road c: 2.5 km asked, 2.5375 km modelled and" in of_run(task(plain, step=Fraction(7)))["rounded"]
+    assert of_run(task(plain, **{"demand": Fraction(2)}))["left_vehicles"] > 1080
+    assert "no such key" in of_run(task(plain, **{"signals.ofset": 40}))["error"]
+    assert "no program" in of_run(task("/none"))["error"]
+
+
+def rounded_lines(tool, *values):
+    """What a sweep over a step and offsets prints of what was rounded: the remarks of its rows, and its line of all rows."""
+    status, out, err = tool("sweep", STUDY, *(word for value in values for word in ("--vary", value)), "-j", "1")
+    assert status == 0, err
+    return [line.partition("ounded")[2] for line in out.splitlines() if "ounded" in line]
+
+
+def test_what_is_rounded_in_all_rows_is_told_once(tool, plain):
+    """By steps of 7 s a cell is 87.5 m and 2.5 km are 29 of them, 2.5375 km; by steps of 10 s they are 20 of 125 m."""
+    road = "length of road c: 2.5 km asked, 2.5375 km modelled"
+    once, = rounded_lines(tool, "step=7", "signals.offset=0,7")
+    assert once.startswith(f" in each of them: {road}")
+    of_one_row, = rounded_lines(tool, "step=7", "signals.offset=7")
+    assert of_one_row.startswith(f": {road}")
+    of_one_of_two, = rounded_lines(tool, "step=7,10", "signals.offset=0")
+    assert of_one_of_two.startswith(f": {road}")
+    assert rounded_lines(tool, "step=10", "signals.offset=0,10") == []
 
 
 def test_a_fingerprint_tells_studies_apart(plain):
@@ -115,7 +138,7 @@ def test_an_ended_process_loses_nothing(plain, tmp_path):
     """One of two processes is ended from outside; its run is done again."""
     tasks = [task(plain, **{"signals.offset": i % 12 * 10}) for i in range(8)]
     done = {}
-    for i, measured in workers.beside(tasks, 2):
+    for i, measured in workers.beside(tasks, 2, measure):
         if not done:
             os.kill(multiprocessing.active_children()[0].pid, signal.SIGKILL)
         done[i] = measured
@@ -126,7 +149,7 @@ def test_an_ended_process_loses_nothing(plain, tmp_path):
 def test_a_lost_worker_of_a_cluster_loses_nothing(tool, plain, monkeypatch):
     """One of two workers is killed while both are at work."""
     with two_workers(monkeypatch) as cluster:
-        at_row(monkeypatch, Results, 2, lambda: kill_a_worker(cluster))
+        at_row(monkeypatch, SweptRows, 2, lambda: kill_a_worker(cluster))
         status, out, err = tool("sweep", STUDY, "--vary", "signals.offset=0:110:10", "--dask", cluster.scheduler_address)
     assert status == 0, err
     rows = [line for line in open("arterial-0.sweep/table.csv")][1:]
@@ -148,7 +171,7 @@ def test_a_scheduler_that_dies_is_told_with_what_to_do(tool, plain, tmp_path, mo
     try:
         wait_until(lambda: (tmp_path / "address").exists() or scheduler.poll() is not None)
         address = (tmp_path / "address").read_text()
-        at_row(monkeypatch, Results, 2, end_it)
+        at_row(monkeypatch, SweptRows, 2, end_it)
         status, out, err = tool("sweep", STUDY, "--vary", "signals.offset=0:110:10", "--dask", address)
     finally:
         scheduler.kill()

@@ -19,12 +19,12 @@ def test_reports_beside_each_other():
     one, two = corridors(60, a=20), corridors(60, a=19)
     # The queue of 20 waits 400 vehicle-steps, that of 19 waits 361: 39 less, which are 9.75 in a hundred.
     assert list(beside_each_other(side_by_side({"now": one, "then": two}), "future")) == [
-        "  future  came  served  inside  delay, vehicle-steps  against now", "  now       40      40       0                   400",
-        "  then      38      38       0                   361          -39  -9.8%"]
+        "  future  entered  left  inside  delay, vehicle-steps  against now", "  now          40    40       0                   400",
+        "  then         38    38       0                   361          -39  -9.8%"]
     for report in (one, two):
         report.units = Units(step=1800)
     lines = list(beside_each_other(side_by_side({"now": one, "then": two}, 10), ""))
-    assert lines[0].split() == ["came", "served", "inside", "delay,", "vehicle-hours", "against", "now", "cost"]
+    assert lines[0].split() == ["entered", "left", "inside", "delay,", "vehicle-hours", "against", "now", "cost"]
     assert lines[1].split() == ["now", "40", "40", "0", "200", "2,000"] and lines[2].split()[-3:] == ["-19.5", "-9.8%", "1,805"]
     assert lines[0].endswith("    cost") and lines[1].endswith("   2,000") and lines[2].endswith("  1,805")
 
@@ -47,7 +47,7 @@ def test_the_sums_of_two_reports():
     one, two = corridors(30, a=20), corridors(60, a=19)
     frame = totals(one, two)
     # At step 30 28 of 40 have gone out.
-    assert frame.index.tolist() == ["came", "served", "inside at the end", "delay"] and frame["first"].tolist()[:3] == [40, 28, 12]
+    assert frame.index.tolist() == ["entered", "left", "inside at the end", "delay"] and frame["first"].tolist()[:3] == [40, 28, 12]
     assert frame["second"].tolist()[:3] == [38, 38, 0] and frame["rise"].tolist()[:3] == [-2, 10, -12]
     with pytest.raises(Problem, match="--value-of-time: the units aren't known"):
         totals(one, two, 5)
@@ -61,10 +61,10 @@ def test_cells_of_two_reports():
     frame = compare(corridors(60, a=20, b=5), corridors(60, b=6, a=18))
     # 400 and 324 of a, 25 and 36 of b; of the exits what came to them.
     assert frame.index.tolist()[:2] == ["a", "b"] and frame.delay_rise.tolist()[:2] == [-76, 11]
-    assert frame.loc["a"].tolist() == [400, 324, -76, 40, 36, -4] and frame.loc["xb", "gone_rise"] == 2 and frame.loc["xb", "gone_first"] == 10
+    assert frame.loc["a"].tolist() == [400, 324, -76, 40, 36, -4] and frame.loc["xb", "left_rise"] == 2 and frame.loc["xb", "left_first"] == 10
     alone = compare(corridors(60, a=20), corridors(60, b=6))
     assert alone.loc["a", "delay_rise"] == -400 and alone.loc["b", "delay_rise"] == 36 and numpy.isnan(alone.loc["b", "delay_first"])
-    assert alone.loc["a", "gone_rise"] == -40 and alone.loc["b", "gone_rise"] == 12
+    assert alone.loc["a", "left_rise"] == -40 and alone.loc["b", "left_rise"] == 12
 
 
 def test_the_rise_as_a_part_of_the_first_delay():

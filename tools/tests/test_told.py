@@ -4,8 +4,8 @@ import subprocess
 
 import pytest
 
-from ctmtools.files import network_target, report_target
-from ctmtools.first_few import first_few
+from ctmtools.runs.outputs import network_target, report_target
+from ctmtools.texts.text_table import first_few
 from ctmtools.units import units_path
 
 from .corridor import corridor_text

@@ -9,7 +9,7 @@ from ctmtools.commands.choose import _tell
 from ctmtools.report.summary import _seen
 from ctmtools.report.routes import main_route
 from ctmtools.network_file.network import network_of
-from ctmtools.sweeps.task import Task, fingerprint
+from ctmtools.many_runs.task import Task, fingerprint
 from ctmtools.units import Units
 
 
@@ -37,14 +37,14 @@ def test_cells_that_are_compared_stand_in_columns(tool, reports):
     begin = next(i for i, line in enumerate(out) if line.startswith("The greatest changes of delay, 1 of "))
     # In the wave nobody waits at the second stop line, which all 1,080 vehicles pass.
     head, row = out[begin + 2:begin + 4]
-    assert head == "  cell     A  B  B - A  gone A  gone B  B - A" and row.startswith("  c08   ") and row.endswith("   1,080   1,080      0")
+    assert head == "  cell     A  B  B - A  left A  left B  B - A" and row.startswith("  c08   ") and row.endswith("   1,080   1,080      0")
     assert row.split()[2] == "0" and row.split()[3] == f"-{row.split()[1]}"
 
 
 def test_the_value_of_time_goes_with_roads_ramps_and_totals(tool, reports):
     path = reports("arterial-0")
     status, out, err = tool("table", path, "--totals", "--cell", "c04", "--value-of-time", "4")
-    assert status == 0 and out.splitlines() == ["cell,occupancy,come,gone,delay,road,from_km,to_km,lanes,cost", "c04,0,1080,1080,6.75,c,0.375,0.5,2,27"]
+    assert status == 0 and out.splitlines() == ["cell,vehicles,entered,left,delay,road,from_km,to_km,lanes,cost", "c04,0,1080,1080,6.75,c,0.375,0.5,2,27"]
     for words in (["--value-of-time", "4"], ["--interval", "5 min"], ["--by", "road", "--totals"], ["--totals", "--interval", "5 min"]):
         assert "go with --by road" in tool("table", path, *words)[2]
     for words in (["--separator", ";;"], ["--decimal", ""], ["--separator", "."]):

@@ -24,8 +24,8 @@ def test_at_free_flow_a_cell_takes_a_step(tmp_path):
     assert frame["mean"].tolist() == pytest.approx([4 * 10 / 60] * 3)  # the last come in at 06:30:10
     # 1 km in 40 s is 90 km/h. 1,000 vehicles/h come for 1,800 s, of which those of the first 890 s enter by 06:15.
     assert frame.speed.tolist() == pytest.approx([90] * 3) and frame.delay.tolist() == pytest.approx([0] * 3)
-    assert frame.vehicles.sum() == pytest.approx(500, abs=0.01)
-    assert frame.vehicles[0] == pytest.approx(890 * 1000 / 3600, abs=0.01)
+    assert frame.entered.sum() == pytest.approx(500, abs=0.01)
+    assert frame.entered[0] == pytest.approx(890 * 1000 / 3600, abs=0.01)
 
 
 def test_who_comes_in_a_red_waits_for_the_green():
@@ -51,7 +51,7 @@ def test_of_nobody_there_is_no_mean_time():
 
 def test_spans_of_a_single_step():
     frame = travel_times(at_a_light(0, 3), ["a"], every=1)
-    assert frame.entered[frame.vehicles > 0].tolist() == [1, 4]  # whose middles come at 1.5 and 4.5
+    assert frame.time[frame.entered > 0].tolist() == [1, 4]  # whose middles come at 1.5 and 4.5
 
 
 def test_the_delay_of_a_lane_drop_is_that_of_its_travel_times(report):
@@ -108,7 +108,7 @@ def test_the_command_prints_and_writes_rows_draws_them_and_refuses_odd_spans(too
     row = next(line.split() for line in out.splitlines() if line.strip().startswith("06:00"))
     assert row[2:] == ["5", "5", "5", "90"]
     assert (tmp_path / "t.png").stat().st_size > 5000
-    assert (tmp_path / "rows.csv").read_text().startswith("entered,vehicles,mean,least,most,free,delay,speed,step\n")
+    assert (tmp_path / "rows.csv").read_text().startswith("time,entered,mean,least,most,free,delay,speed,step\n")
     assert tool("travel-time", path, "--every", "1 s")[2].count("must be a step or more") == 1
     assert tool("travel-time", path, "--every", "soon")[0] == 2
 

@@ -8,17 +8,17 @@ import pytest
 from scipy import stats
 
 from ctmtools.problem import Problem
-from ctmtools.study.reading import read_study, read_values
-from ctmtools.uncertainty.distribution import Given, Lognormal, Normal, Triangular, Uniform
-from ctmtools.uncertainty.draw import drawn
-from ctmtools.uncertainty.incident import happened
-from ctmtools.uncertainty.interval import of_mean, of_percentile, of_probability, within
-from ctmtools.uncertainty.key import is_demand, with_drawn
+from ctmtools.study.reading import read_scenario, read_values
+from ctmtools.study.keys import gate_of_factor
+from ctmtools.study.distribution import Given, Lognormal, Normal, Triangular, Uniform
+from ctmtools.uncertainty.incident import drawn, happened
+from ctmtools.uncertainty.reliability import (DELAY, TRAVEL, buffer_index, of_mean, of_percentile, of_probability, planning_time_index,
+                                              spread, within)
+from ctmtools.uncertainty.plan import with_drawn
 from ctmtools.uncertainty.messages import plan_lines
-from ctmtools.uncertainty.reliability import DELAY, buffer_index, planning_time_index, spread
-from ctmtools.uncertainty.results import Results
+from ctmtools.uncertainty.results import Draws
 from ctmtools.uncertainty.task import Asked, figures
-from ctmtools.uncertainty.uncertainty import Varying
+from ctmtools.study.uncertainty import Varying
 
 from .corridor import corridor
 from .examples import EXAMPLES
@@ -33,7 +33,7 @@ def uncertain(folder, *entries, base=BASE):
     """What is uncertain of the example with other entries, which are told in TOML."""
     path = folder / "s.toml"
     path.write_text(base + "".join(f"[[uncertain]]\n{entry}\n" for entry in entries))
-    return read_study(path).uncertain
+    return read_scenario(path).uncertain
 
 
 @pytest.mark.parametrize("ours, theirs", [
@@ -100,7 +100,7 @@ def test_values_that_are_given_may_be_texts(tmp_path):
 
 @pytest.mark.parametrize("key, wanted", [("demand", True), ("demand.on", True), ("demand.on.flow", False), ("gates.on.demand", False)])
 def test_the_demand_of_all_gates_or_of_one_is_multiplied_once_the_study_is_read(key, wanted):
-    assert is_demand(key) == wanted
+    assert (gate_of_factor(key) is not None) == wanted
 
 
 NORMAL = 'factor = "normal"\nmean = 1\ndeviation = 0.1'
@@ -140,10 +140,21 @@ def test_indices_of_ten_times():
     assert planning_time_index(times, 0.5) == pytest.approx(30.1) and buffer_index(times) == pytest.approx((15.05 - 6.5) / 6.5)
 
 
+@pytest.mark.parametrize("ways, told", [(12, []), (13, ["and 1 more roads in summary.csv"])])
+def test_roads_beyond_the_twelve_of_the_table_are_counted(ways, told):
+    roads = [f"m{number}" for number in range(ways)]
+    figures_of_runs = {DELAY: 5.0, **{TRAVEL + road: 3.0 for road in roads}}
+    rows = pandas.DataFrame({"plan": "s", "draw": [1, 2], "error": "", "inside_vehicles": 0, **figures_of_runs})
+    found = Draws(rows, title="s", titles={}, seed=1, count=2, asked_for=2, places=(), times={}, stand={"s": figures_of_runs},
+                  free={"s": dict.fromkeys(roads, 2.0)}, networks={})
+    assert list(plan_lines(found, "s")) == told
+
+
 @pytest.mark.parametrize("inside, told", [([0, 0], []), ([3, 0], ["In 1 draw vehicles are"]), ([3, 4], ["In 2 draws vehicles are"])])
 def test_it_is_told_in_how_many_draws_vehicles_are_inside_at_the_end(inside, told):
     rows = pandas.DataFrame({"plan": "s", "draw": [1, 2], "error": "", DELAY: 5.0, "inside_vehicles": inside})
-    found = Results("s", {}, 1, 2, 2, (), {}, {"s": {DELAY: 5.0}}, {"s": {}}, rows, {})
+    found = Draws(rows, title="s", titles={}, seed=1, count=2, asked_for=2, places=(), times={}, stand={"s": {DELAY: 5.0}}, free={"s": {}},
+                  networks={})
     assert list(plan_lines(found, "s")) == [f"{line} inside at the end: a part of their delay is still to come." for line in told]
 
 
@@ -167,7 +178,7 @@ def test_as_many_incidents_happen_as_rate_and_kilometres_make(tmp_path, report):
     entry = 'incidents = "m"\nrate = 50\nto = 1.5\nlanes = {distribution = "given", values = [1, 2]}\n' \
         'duration = {distribution = "uniform", least = "10 min", most = "30 min"}'
     found = uncertain(tmp_path, entry, base=(EXAMPLES / "bottleneck.toml").read_text()).incidents
-    read, study = report("bottleneck"), read_study(tmp_path / "s.toml")
+    read, study = report("bottleneck"), read_scenario(tmp_path / "s.toml")
     draws = [happened(found, read, study, 1, number) for number in range(1, 1001)]
     counts = numpy.array([len(draw) for draw in draws])
     assert counts.mean() == pytest.approx(0.9675, abs=4 * (0.9675 / 1000) ** 0.5)
@@ -187,7 +198,7 @@ def test_incidents_happen_where_vehicles_drive_and_not_cell_by_cell(tmp_path):
     made = corridor(tmp_path, parts="[[roads.m.sections]]\nfrom = 0.5\nfree_flow_speed = 45\n")
     text = (tmp_path / "study.toml").read_text()
     found = uncertain(tmp_path, 'incidents = "m"\nrate = 3000\nlanes = 1\nduration = "5 min"', base=text).incidents
-    report, study = reported(made), read_study(tmp_path / "s.toml")
+    report, study = reported(made), read_scenario(tmp_path / "s.toml")
     parts = [closure.part for number in range(1, 301) for closure in happened(found, report, study, 1, number)]
     assert {(float(part.start_km) < 0.5, float(part.end_km - part.start_km)) for part in parts} == {(True, 0.25), (False, 0.125)}
     assert numpy.mean([part.start_km < 0.5 for part in parts]) == pytest.approx(0.5, abs=4 * (0.25 / len(parts)) ** 0.5)
@@ -205,4 +216,4 @@ def test_a_queue_passes_the_places_that_it_stood_before(tmp_path):
 def test_too_many_incidents_are_told(tmp_path, report):
     found = uncertain(tmp_path, 'incidents = "m"\nrate = 12_000\nduration = "20 min"\nlanes = 1', base=(EXAMPLES / "bottleneck.toml").read_text())
     with pytest.raises(Problem, match="1,161 incidents in a run; it is for a million vehicle-km"):
-        happened(found.incidents, report("bottleneck"), read_study(EXAMPLES / "bottleneck.toml"), 1, 1)
+        happened(found.incidents, report("bottleneck"), read_scenario(EXAMPLES / "bottleneck.toml"), 1, 1)

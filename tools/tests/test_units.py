@@ -5,11 +5,11 @@ from fractions import Fraction
 
 import pytest
 
-from ctmtools.amounts import amount_text, parts_of, rounded_parts, whole_of
+from ctmtools.texts.amounts import amount_text, parts_of, rounded_parts, whole_of
 from ctmtools.imports.gmns import read_folder
 from ctmtools.problem import Problem
-from ctmtools.study.quantities import clock, density, duration, flow, length, speed
-from ctmtools.units import DAY, MILE_KM, Units, clock_text
+from ctmtools.texts.quantities import DAY, clock, density, duration, flow, length, speed
+from ctmtools.units import MILE_KM, Units, clock_text
 
 FOOT, MILE, HOUR = Fraction("0.3048"), Fraction("1609.344"), 3600  # m, m and s
 TABLE = [(length, "1 mi", MILE / 1000), (length, "1 m", Fraction(1, 1000)), (length, "1 km", 1),

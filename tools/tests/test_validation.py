@@ -8,10 +8,10 @@ import pytest
 
 from ctmtools import build
 from ctmtools.network_file.network import network_of
-from ctmtools.program import ask, program_path, takes
+from ctmtools.program.calls import ask, program_path, takes
 from ctmtools.report.queues import queues_in
 from ctmtools.report.reading import report_of
-from ctmtools.study.reading import read_values, study_of
+from ctmtools.study.reading import read_values, scenario_of
 
 from .examples import EXAMPLES
 from .kinematic_waves import LaneDrop, SpeedLimit
@@ -23,7 +23,7 @@ DEMAND = [(0, 0.5, 2160), (0.5, 1, 3600), (1, 1.5, 5040), (1.5, 2, 4500), (2, 2.
 def run(name, **changes):
     """The report of a study with each step recorded, by the program where it records, else by the plain recurrences."""
     path = EXAMPLES / f"{name}.toml"
-    built = build(study_of({**read_values(path), **changes}, path))
+    built = build(scenario_of({**read_values(path), **changes}, path))
     text = built.text.encode()
     recorded = takes("--every", str(program_path()))
     report = report_of(ask(("run", "--every", "1"), text).out if recorded else plain_model.report(text, 1))
@@ -61,7 +61,7 @@ def test_lane_drop_over_the_length_of_cells(step, cell, reach, cleared, mean, mo
     assert bounds[1] * 1000 == cell
     times = report.times * report.units.step / 3600
     theory = LaneDrop(90, 18, 432, 5, 4320, DEMAND, delay=report.units.step / 3600)  # a step passes in the gate
-    misplaced = numpy.abs(report.occupancy[cells].to_numpy() - theory.held(bounds, times)).sum(axis=1) / 2
+    misplaced = numpy.abs(report.vehicles[cells].to_numpy() - theory.held(bounds, times)).sum(axis=1) / 2
     queued = (times > 1.06) & (times < 2.68)
     assert misplaced[queued].mean() == pytest.approx(mean, rel=0.05)
     assert misplaced.max() == pytest.approx(most, rel=0.05)
@@ -83,7 +83,7 @@ def test_road_works():
     assert hours(report, report.cells.index) == pytest.approx(2328, abs=0.01)
     assert (queue.reach, clocks(report, queue)) == (pytest.approx(4), ("10:00:20", "13:57:30", "14:14:00"))
     # Five minutes after the end the wave has run 1.5 km back by theory; behind it cells still hold more than Q = 18.
-    row = report.occupancy.loc[1830, [f"m{i}" for i in range(15, 21)]]
+    row = report.vehicles.loc[1830, [f"m{i}" for i in range(15, 21)]]
     assert [round(value, 1) for value in row] == [43.7, 33.3, 25.4, 20.7, 18.6, 18.1]
 
 
@@ -96,7 +96,7 @@ def test_a_green_smears_the_wave_by_the_root_of_its_way(step, cell, widths):
     cells = [name for name in report.units.roads["c"] if report.units.cells[name]["to_km"] <= 1.5001][::-1]
     back = [1.5 - (report.units.cells[name]["from_km"] + report.units.cells[name]["to_km"]) / 2 for name in cells]
     for way, width in zip((0.25, 0.5, 1.0), widths):
-        jam = report.occupancy.loc[round((60 + way / 15 * 3600) / step), cells].to_numpy() / (cell / 1000)
+        jam = report.vehicles.loc[round((60 + way / 15 * 3600) / step), cells].to_numpy() / (cell / 1000)
         part = (jam - 72) / (288 - 72)
         low, middle, high = (numpy.interp(level, part, back) for level in (0.1, 0.5, 0.9))
         assert (high - low) * 1000 == pytest.approx(width, abs=1)

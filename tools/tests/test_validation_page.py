@@ -40,7 +40,7 @@ def density(step, seconds, first):
     """The vehicles/km on 250 m from a kilometre on, so long after 08:00."""
     report = limited(step)
     own = [cell for cell, row in report.units.cells.items() if first - 1e-9 <= row["from_km"] and row["to_km"] <= first + 0.25 + 1e-9]
-    return report.occupancy.loc[round((540 + seconds) / step), own].sum() / 0.25
+    return report.vehicles.loc[round((540 + seconds) / step), own].sum() / 0.25
 
 
 @pytest.mark.parametrize("clock, place, theory, coarse, fine", rows_under("Time | From km, 250 m | Vehicles/km by theory | Cells of 250 m | Cells of 62.5 m"))
@@ -165,7 +165,7 @@ def test_the_tables_have_a_row_for_each_length_of_cells():
 @pytest.mark.parametrize("step, names", [(720, ["m08"]), (480, [f"m{i}" for i in range(13, 18)])])
 def test_what_the_cells_of_the_lane_drop_hold(step, names):
     """At 08:00 m08 holds 26, and at 07:20 five cells hold what the page says."""
-    row = run("bottleneck").occupancy.loc[step, names]
+    row = run("bottleneck").vehicles.loc[step, names]
     told = "At 08:00 m08 holds 26 vehicles" if names == ["m08"] else (
         "At 07:20 the cells m13 to m17 of the lane drop hold {:.1f}, {:.1f}, {:.1f}, {:.1f} and {:.1f} vehicles".format(*row))
     assert told in PAGE

@@ -4,9 +4,9 @@ from fractions import Fraction
 
 import pytest
 
+from ctmtools.many_runs.variations import changed, shown, variation, variation_of
 from ctmtools.problem import NoSuchKey, Problem
-from ctmtools.sweeps.results import Results
-from ctmtools.sweeps.variations import changed, shown, variation, variation_of
+from ctmtools.sweeps.sweeping import SweptRows
 
 from .examples import EXAMPLES
 
@@ -39,14 +39,14 @@ def test_values_are_told_in_ten_digits():
 
 
 def measured(delay, queue=0.0, error=""):
-    values = dict.fromkeys(("delay_vehicle_hours", "longest_queue_km", "most_waiting_vehicles", "served_vehicles", "inside_vehicles",
+    values = dict.fromkeys(("delay_vehicle_hours", "longest_queue_km", "most_waiting_vehicles", "left_vehicles", "inside_vehicles",
                             "travel_time_min"), 0.0)
     return {**values, "delay_vehicle_hours": delay, "longest_queue_km": queue, "rounded": "", "error": error}
 
 
 def test_rows_are_in_the_order_of_delay_and_those_that_failed_last():
     marks = [f"{i:016d}" for i in range(5)]
-    results = Results(None, ["a"], marks[:4])
+    results = SweptRows(None, ["a"], marks[:4])
     for mark, a, row in zip(marks, (4, 3, 2, 1, 0), (measured(5), measured(float("nan"), error="no"), measured(2, 1.5), measured(2, 0.5), measured(0))):
         results.put({"a": Fraction(a)}, row, mark)
     # The fifth is of another call.
@@ -56,15 +56,22 @@ def test_rows_are_in_the_order_of_delay_and_those_that_failed_last():
 def test_rows_in_a_file_are_kept_whole(tmp_path):
     path = tmp_path / "r" / "results.csv"
     marks = ["a" * 16, "b" * 16]
-    Results(path, ["k"], marks).put({"k": Fraction(1, 2)}, measured(3), marks[0])
-    again = Results(path, ["k"], marks)
+    SweptRows(path, ["k"], marks).put({"k": Fraction(1, 2)}, measured(3), marks[0])
+    again = SweptRows(path, ["k"], marks)
     assert again.done == {marks[0]} and again.frame().k.tolist() == ["0.5"]
     again.put({"k": 2}, measured(1, error="failed"), marks[1])
-    assert Results(path, ["k"], marks).done == {marks[0]}
+    assert SweptRows(path, ["k"], marks).done == {marks[0]}
     path.write_text(path.read_text() + "7,1,2,3,4,5,6,,,cccccccc\n")
-    assert Results(path, ["k"], ["cccccccc"]).done == set()
+    assert SweptRows(path, ["k"], ["cccccccc"]).done == set()
     with pytest.raises(Problem, match="has the results of a sweep over k; name another folder"):
-        Results(path, ["q"], marks)
+        SweptRows(path, ["q"], marks)
+
+
+def test_a_run_without_a_travel_time_is_read_again(tmp_path):
+    path = tmp_path / "results.csv"
+    SweptRows(path, ["k"], ["a" * 16]).put({"k": 2}, {**measured(3), "travel_time_min": float("nan")}, "a" * 16)
+    again = SweptRows(path, ["k"], ["a" * 16]).frame()
+    assert again.delay_vehicle_hours.tolist() == [3] and again.travel_time_min.isna().all()
 
 
 def test_rows_beyond_those_that_are_told_are_counted(tool, plain):

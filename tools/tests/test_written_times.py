@@ -4,7 +4,7 @@ import pytest
 
 from ctmtools.detectors.days import Days
 from ctmtools.problem import Problem
-from ctmtools.detectors.written_times import Moment, day, day_text, follows, moment
+from ctmtools.detectors.clocks import Moment, day, day_text, follows, moment
 
 HOUR, MINUTE = 3600, 60
 

@@ -6,11 +6,11 @@ import pandas
 import pytest
 
 from ctmtools import read_study
-from ctmtools.running import run, settled_by_runs
+from ctmtools.runs.running import run, settled_by_runs
 from ctmtools.yielding import settling
 
 from .examples import EXAMPLES
-from .test_yield import CROSSING, LANE, PERMITTED, SIDE, flow, roundabout, settle, write
+from .test_yield import CROSSING, LANE, PERMITTED, SIDE, TWO_LANES, flow, roundabout, settle, write
 
 STOP = EXAMPLES / "village-stop.toml"
 PAPER = {"1": 0.0, "1.2": 59.13, "1.5": 216.5}  # vehicle-hours by the traffic, examples/README.md
@@ -30,7 +30,7 @@ def test_a_search_for_greens_judges_plans_in_which_left_turns_give_way(tmp_path,
     write(tmp_path, CROSSING.format(more=PERMITTED.replace("SNEAKERS", "2")))
     status, out, err = tool("optimise", "study.toml", "--signals", "--generations", "1", "--population", "5", "-o", "found")
     best = float(next(line for line in out.splitlines() if "delay (vehicle-hours)" in line).split()[-1].replace(",", ""))
-    report = run_of(read_study("found/best.toml"))
+    report = run_of(read_study("found/best.toml").scenario)
     assert status == 0 and best == pytest.approx(report.delay_vehicle_hours, abs=0.01), err
 
 
@@ -42,7 +42,7 @@ def run_of(study):
 
 def test_what_does_not_settle_is_told_with_its_movement(tmp_path, recording_program, monkeypatch):
     monkeypatch.setattr(settling, "MOST_RUNS", 2)
-    found = settled_by_runs(read_study(write(tmp_path, roundabout(800))))
+    found = settled_by_runs(read_study(write(tmp_path, roundabout(800))).scenario)
     told = [line for line in found.built.warnings if "isn't settled" in line]
     assert not found.is_settled and "isn't settled after 2 runs" in found.doubt
     assert len(told) == 4 and told[0].startswith("merges[1], arm0: after 2 runs what passes isn't settled")
@@ -75,13 +75,13 @@ def test_a_median_lets_more_pass(tmp_path, recording_program, median, capacity):
     # critical gap of 6.1 s pass 630.4 and 491.2, so y = 406.6/267.4 = 1.5206, and with a median of one vehicle
     # 0.91279/(1.5206² - 1)·(1.5206·0.5206·491.2 + 0.5206·223.8) = 0.69559·505.4 = 351.5.
     more = f'''yields = [{{ movement = ["e", "y"], yields_to = [["n", "x"], ["s", "y"]], kind = "minor-left"{median} }}]'''
-    found, _ = settle(tmp_path, CROSSING.format(more=more))
+    found, _ = settle(tmp_path, TWO_LANES.format(more=more))
     one, = found.study.yields
     assert float(one.capacities[-1].flow) == pytest.approx(capacity, rel=0.001)
 
 
 def test_a_settled_network_says_what_its_run_makes_of_it(tmp_path, recording_program):
-    found = settled_by_runs(read_study(write(tmp_path, SIDE.format(main=600, low=300, high=600))))
+    found = settled_by_runs(read_study(write(tmp_path, SIDE.format(main=600, low=300, high=600))).scenario)
     again = settled_by_runs(found.study)
     assert again.built.text == found.built.text
     report = run(found.built.text.encode(), "study", found.built.units, 1, network=found.built.network)[1]

@@ -7,12 +7,13 @@ use Rattle.std.proofs.lemmas.List.{length-map}
 use Rattle.std.proofs.lemmas.List.FromFn.{length-range_with_len}
 use Rattle.std.proofs.lemmas.List.Sums.{length-filter, sum-map, sum_by-cons, sum_by-le, sum_by-le-sum_by}
 use Rattle.std.proofs.lemmas.Simd.{map-map}
-use Rattle.signal_plan.proofs.Sums.{sum_by-swap, sum_by_agree, sum_by_range_one}
-use Rattle.network_file.specs.Network.{IsNetwork, Network}
+use Rattle.step_plan.proofs.Sums.{sum_by-swap, sum_by_agree, sum_by_range_one}
+use Rattle.network_file.specs.Network.{Network}
+use Rattle.network_file.specs.Sound.{IsNetwork}
 use Rattle.network_file.proofs.NetworkFacts.{few_records}
 use Rattle.region_cut.specs.Chart.{ChartLists, IsChart, border_of, chart_of, list_at}
 use Rattle.region_cut.specs.Cuttings.{region_at, region_count}
-use Rattle.region_cut.specs.Joins.{is_border}
+use Rattle.region_cut.specs.Neighbours.{is_border}
 use Rattle.region_cut.proofs.Cuttings.{region_count-few}
 use Rattle.region_cut.proofs.Membership.{region_at-there}
 use Rattle.border_rows.specs.Places.{base_of, width_at, widths_of, words_of}

@@ -5,7 +5,7 @@ use Rattle.std.proofs.Common.{◌≡◌, ◌≢◌, ◌⊎◌, ℕ, ◌+◌, ◌
 use Rattle.network_file.specs.Network.{Network}
 use Rattle.region_cut.specs.Chart.{ChartLists}
 use Rattle.region_cut.specs.Cuttings.{region_count}
-use Rattle.region_cut.specs.Joins.{are_neighbours}
+use Rattle.region_cut.specs.Neighbours.{are_neighbours}
 use Rattle.region_cut.specs.LawfulSteps.{AreLawful}
 use Rattle.region_cut.proofs.Meetings.{neighbours-by, touches_region-cell}
 use Rattle.region_cut.proofs.Membership.{region_at-there}

@@ -12,7 +12,7 @@ use lib.ListN.{get_elem?}
 use Rattle.network_file.specs.Network.{Network}
 use Rattle.region_cut.specs.Chart.{ChartLists}
 use Rattle.region_cut.specs.Cuttings.{region_count}
-use Rattle.region_cut.specs.Joins.{are_neighbours}
+use Rattle.region_cut.specs.Neighbours.{are_neighbours}
 use Rattle.region_step.specs.Region.{RegionValue}
 use Rattle.region_step.specs.Standing.{Stands}
 use Rattle.region_step.specs.Start.{StartLists}

@@ -8,11 +8,11 @@ use Rattle.std.proofs.lemmas.List.FromFn.{get_or-map-range_with_len, length-rang
 use Rattle.std.proofs.lemmas.List.Sums.{get_or-le-sum_by, sum_by-cons}
 use mathlib.Core.Option.{some}
 use lib.ListN.{get_elem?}
-use Rattle.signal_plan.proofs.Sums.{count_by-cons, sum_by_range_one, sum_by_splits}
+use Rattle.step_plan.proofs.Sums.{count_by-cons, sum_by_range_one, sum_by_splits}
 use Rattle.network_file.specs.Network.{Network}
 use Rattle.region_cut.specs.Chart.{ChartLists, IsChart}
 use Rattle.region_cut.specs.Cuttings.{region_count}
-use Rattle.region_cut.specs.Joins.{are_neighbours}
+use Rattle.region_cut.specs.Neighbours.{are_neighbours}
 use Rattle.region_cut.specs.LawfulSteps.{AreLawful}
 use Rattle.region_cut.proofs.Meetings.{neighbours-sym}
 use Rattle.region_step.specs.Grid.{grid_held}

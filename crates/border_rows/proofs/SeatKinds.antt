@@ -8,7 +8,7 @@ use Rattle.std.proofs.lemmas.List.FromFn.{fill_by_all, get_or-map-range_with_len
 use Rattle.std.proofs.lemmas.List.Sums.{sum_by-cons, sum_by_push}
 use mathlib.Core.Option.{some}
 use lib.ListN.{get_elem?}
-use Rattle.signal_plan.proofs.Sums.{sum_by-zero}
+use Rattle.step_plan.proofs.Sums.{sum_by-zero}
 use Rattle.network_file.specs.Network.{Network}
 use Rattle.region_cut.specs.Chart.{ChartLists}
 use Rattle.region_cut.specs.Cuttings.{region_count}

@@ -5,7 +5,8 @@ use Rattle.command_words.specs.declared.mode.Mode.{Mode}
 use Rattle.command_words.specs.declared.request.Request.{Request}
 use Rattle.ctm_ports.specs.ReadEnd.{LosesAtMost}
 use Rattle.net_make.specs.Made.{made}
-use Rattle.call_ending.specs.Refusing.{IsRefusalOf, Why}
+use Rattle.call_ending.specs.Refusing.{IsRefusalOf}
+use Rattle.call_ending.specs.Why.{Why}
 use Rattle.call_ending.specs.declared.refusal.Refusal.{Refusal}
 use Rattle.call_ending.specs.declared.refusal.Refusal.TheVariants as refusal
 use Rattle.call_beginning.specs.Input.{IsInputOf, large_input, most_input, most_read, reads_source, why_long}

@@ -5,7 +5,7 @@ use Rattle.command_words.specs.declared.mode.Mode.{Mode}
 use Rattle.command_words.specs.declared.mode.Mode.TheVariants.{Run, Watch, Sample, Save, Resume, Choose, Recut, Cut, Check, Convert}
 use Rattle.command_words.specs.declared.request.Request.{Request}
 use Rattle.net_make.specs.Made.{made}
-use Rattle.call_ending.specs.Refusing.{Why}
+use Rattle.call_ending.specs.Why.{Why}
 use Rattle.call_ending.specs.declared.status.Status.TheVariants as status
 
 -- whether a mode reads the source: each but `sample`, which makes its network itself
@@ -46,7 +46,7 @@ abbrev pub asks_source : Option Request → Bool
 asks_source None = false
 asks_source (Some request) = reads_source request.mode
 
--- the input of a request: what the source has left, where it tells it, and of `sample` the made network
+-- the input of a request: of `sample` the made network, else what the source had left, or any where it doesn't tell its bytes
 abbrev pub IsInputOf : Option Request → (left : Option (List ℕ)) → (input : List ℕ) → Type 0
 IsInputOf None left input = IfSome left (λ bytes. input ≡ bytes)
 IsInputOf (Some request) left input =

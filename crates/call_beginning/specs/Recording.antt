@@ -2,7 +2,7 @@
 use Rattle.std.specs.Prelude.{ℕ, ◌*◌, Option, Some, None, length, nat_lt, if◌then◌else◌, codes}
 use Rattle.network_file.specs.Network.{Network}
 use Rattle.delay_report.specs.Report.{recorded_count}
-use Rattle.call_ending.specs.Refusing.{Why}
+use Rattle.call_ending.specs.Why.{Why}
 use Rattle.call_ending.specs.declared.status.Status.TheVariants as status
 
 -- more than 4,000,000 values, cells times recorded steps, are too many

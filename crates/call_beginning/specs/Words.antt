@@ -3,7 +3,8 @@ use Rattle.std.specs.Prelude.{◌≡◌, List, Option, Some, None, String, map, 
 use Rattle.std.specs.declared.alloc.Global.{Global}
 use Rattle.command_words.specs.Words.{request_of}
 use Rattle.command_words.specs.declared.request.Request.{Request}
-use Rattle.call_ending.specs.Refusing.{IsRefusalOf, Why}
+use Rattle.call_ending.specs.Refusing.{IsRefusalOf}
+use Rattle.call_ending.specs.Why.{Why}
 use Rattle.call_ending.specs.declared.refusal.Refusal.{Refusal}
 use Rattle.call_ending.specs.declared.refusal.Refusal.TheVariants.{NoMemory}
 use Rattle.call_ending.specs.declared.status.Status.TheVariants as status

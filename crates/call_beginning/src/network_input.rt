@@ -2,8 +2,10 @@ ghost use Rattle.std.specs.Prelude.{◌≡◌, ◌≤◌, ◌++◌, IfErr, IfOk,
 ghost use Rattle.network_file.specs.Network.{Network};
 ghost use Rattle.network_file.specs.Reading.{network_of};
 ghost use Rattle.network_file.specs.declared.limits.TheConstants.{MOST_BYTES};
-ghost use Rattle.call_ending.specs.Refusing.{IsRefusalOf, Why};
-ghost use Rattle.call_beginning.specs.NetworkInput.{IsToldOf, fault_told, network_refused, why_of_network};
+ghost use Rattle.call_ending.specs.Refusing.{IsRefusalOf};
+ghost use Rattle.call_ending.specs.Why.{Why};
+ghost use Rattle.call_beginning.specs.NetworkInput.{fault_told, network_refused, why_of_network};
+ghost use Rattle.call_beginning.specs.Refused.{IsToldOf};
 
 use call_ending::{Cause, Line, Refusal};
 use itoa::Buffer;

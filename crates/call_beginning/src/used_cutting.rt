@@ -5,7 +5,7 @@ ghost use Rattle.cut_grow.specs.Grown.{IsGrown};
 ghost use Rattle.call_beginning.specs.UsedCutting.{IsCuttingOf};
 
 use crate::used_regions::regions_wanted;
-use command_words::Request;
+use command_words::{CutKind, Request};
 use cut_grow::grow;
 use network_file::Net;
 use no_memory::NoMemory;
@@ -19,11 +19,13 @@ pub fn layout_asked(alloc: Global, net: &Net, request: Request) -> Result<Layout
     ensures cutting { IfOk result (λ layout. IsCuttingOf net.now request layout.chart.cut) }
 {
     let regions = regions_wanted(net, request);
-    if request.grown && net.regions.is_empty() {
-        let cut = grown_cut(alloc, net, regions)?;
-        return Layout::new(alloc, net, cut);
+    match request.cut {
+        CutKind::Grown if net.regions.is_empty() => {
+            let cut = grown_cut(alloc, net, regions)?;
+            Layout::new(alloc, net, cut)
+        }
+        _ => charted(alloc, net, regions),
     }
-    charted(alloc, net, regions)
 }
 
 // A grown cutting into so many regions, or as many as there are cells.

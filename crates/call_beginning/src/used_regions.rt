@@ -1,9 +1,9 @@
-ghost use Rattle.std.specs.Prelude.{◌≡◌, ◌≤◌, ◌*◌, ◌/◌, ◌||◌, if◌then◌else◌, length, min, nat_le, nat_lt};
+ghost use Rattle.std.specs.Prelude.{◌≡◌, ◌≤◌, length};
 ghost use Rattle.command_words.specs.Words.{IsInRange};
 ghost use Rattle.network_file.specs.declared.limits.TheConstants.{MOST_REGIONS};
-ghost use Rattle.call_beginning.specs.UsedRegions.{regions_wanted};
+ghost use Rattle.call_beginning.specs.UsedRegions.{chosen_regions, regions_wanted};
 
-use command_words::Request;
+use command_words::{RegionChoice, Request};
 use network_file::Net;
 
 /// The most regions for each worker where their number is chosen: enough that none waits long for another.
@@ -24,15 +24,15 @@ pub fn regions_wanted(net: &Net, request: Request) -> u32
     ensures few { result ≤ MOST_REGIONS }
 {
     match request.regions {
-        Some(regions) => regions,
-        None => chosen_regions(net.cells.len() as u32, request.workers),
+        RegionChoice::Count(regions) => regions,
+        RegionChoice::Auto => chosen_regions(net.cells.len() as u32, request.workers),
     }
 }
 
 // The number that is chosen for so many cells and workers.
 fn chosen_regions(cells: u32, workers: u32) -> u32
     requires { workers ≤ 16 }
-    ensures chosen { result ≡ if nat_le workers 1 || nat_lt cells 10_000 then 1 else min (8 * workers) (cells / 128) }
+    ensures chosen { result ≡ chosen_regions cells workers }
     ensures some { 1 ≤ result }
     ensures few { result ≤ MOST_REGIONS }
 {

@@ -1,7 +1,10 @@
 -- A call by its answer: what `end` did with the answer is how the call ended.
-use Rattle.std.proofs.Common.{◌≡◌, ℕ, List, Option, Some, inl, inr, subst, sym}
-use Rattle.call_ending.specs.Ending.{HasEnded, HasWritten, IsTold, IsUnwritten, SinkUse}
-use Rattle.call_ending.specs.Refusing.{IsRefusalOf, Why, cause_status, line_of, status_of}
+use Rattle.std.proofs.Common.{◌≡◌, ℕ, true, List, inl, inr, subst, sym, Some}
+use Rattle.std.specs.Io.KnownBytes.{IsAtEnd}
+use Rattle.call_ending.specs.Calls.{Call}
+use Rattle.call_ending.specs.Ending.{Answer, HasEnded, HasLine}
+use Rattle.call_ending.specs.Refusing.{IsRefusalOf, cause_status, line_of, status_of}
+use Rattle.call_ending.specs.Writing.{IsUnwritten, IsWritten}
 use Rattle.call_ending.specs.declared.cause.Cause.{Cause}
 use Rattle.call_ending.specs.declared.cause.Cause.TheVariants as cause
 use Rattle.call_ending.specs.declared.refusal.Refusal.{Refusal}
@@ -9,29 +12,36 @@ use Rattle.call_ending.specs.declared.refusal.Refusal.TheVariants as refusal
 use Rattle.call_ending.specs.declared.status.Status.{Status}
 use Rattle.call_ending.specs.declared.status.Status.TheVariants as status
 
-module _ (IsText : List ℕ → Type 0) (why : Option Why) (IsRead ReadFailed : Type 0) where
+module _ (answer : Answer) (call : Call) where
   -- a text that answers, written
-  pub ended-written : (told : Status) (out err : SinkUse) (text : List ℕ) → IsText text → IsRead → HasWritten text told out err → HasEnded IsText why IsRead ReadFailed told out err
-  ended-written status.Done out err text is read written = (text, is, written.0, read, written.1)
-  ended-written status.WriteFault out err text is read written = (written.0, record { text = text; is_text = is; prefix = written.1 }, written.2)
-  ended-written status.NoMemory out err text is read written = (inr (written.0, record { text = text; is_text = is; prefix = written.1 }), written.2)
-  ended-written other out err text is read written = absurd written
+  pub ended-written : (told : Status) (text : List ℕ) → answer.IsText text → (answer.is_read ≡ true → IsAtEnd call.source.after) → IsWritten text told call.out call.err → HasEnded answer call told
+  ended-written status.Done text is at_end all = record { text = text; answers = is; written = all.written; at_end = at_end; silent = all.silent }
+  ended-written status.Words text is at_end none = absurd none
+  ended-written status.Network text is at_end none = absurd none
+  ended-written status.TooLarge text is at_end none = absurd none
+  ended-written status.ReadFault text is at_end none = absurd none
+  ended-written status.WriteFault text is at_end short = record { failed = short.reason; told = short.told; part = record { text = text; answers = is; prefix = short.prefix } }
+  ended-written status.NoMemory text is at_end short = record { told = short.told; written = inr (short.reason, record { text = text; answers = is; prefix = short.prefix }) }
+  ended-written status.Saved text is at_end none = absurd none
+  ended-written status.Plans text is at_end none = absurd none
 
   -- the answer's own refusal, told
-  answered-told : (by : Cause) (line : List ℕ) (out err : SinkUse) → why ≡ Some (record { status = cause_status by; line = line }) → IsTold line err → out.Kept →
-      HasEnded IsText why IsRead ReadFailed (cause_status by) out err
-  answered-told cause.Words line out err is told kept = (line, is, kept, told)
-  answered-told other line out err is told kept = (line, is, kept, told)
+  answered-told : (by : Cause) (line : List ℕ) → answer.why ≡ Some (record { status = cause_status by; line = line }) → HasLine line call.err → call.out.Kept →
+      HasEnded answer call (cause_status by)
+  answered-told cause.Words line is told kept = record { line = line; why = is; told = told; unwritten = kept }
+  answered-told cause.Network line is told kept = record { line = line; why = is; told = told; unwritten = kept }
+  answered-told cause.TooLarge line is told kept = record { line = line; why = is; told = told; unwritten = kept }
+  answered-told cause.Saved line is told kept = record { line = line; why = is; told = told; unwritten = kept }
+  answered-told cause.Plans line is told kept = record { line = line; why = is; told = told; unwritten = kept }
 
-  refusal-told : (refused : Refusal) (out err : SinkUse) → IsRefusalOf why ReadFailed refused → IsTold (line_of refused) err → out.Kept →
-      HasEnded IsText why IsRead ReadFailed (status_of refused) out err
-  refusal-told (refusal.Told by line) out err is told kept = answered-told by _ out err is told kept
-  refusal-told refusal.ReadFault out err is told kept = (is, kept, told)
-  refusal-told refusal.WriteFault out err is told kept = absurd is
-  refusal-told refusal.NoMemory out err is told kept = (inl kept, told)
+  refusal-told : (refused : Refusal) → IsRefusalOf answer.why ((answer.is_read ≡ true) × call.source.Failed) refused → HasLine (line_of refused) call.err → call.out.Kept →
+      HasEnded answer call (status_of refused)
+  refusal-told (refusal.Told by line) is told kept = answered-told by _ is told kept
+  refusal-told refusal.ReadFault is told kept = record { is_read = is.0; failed = is.1; told = told; unwritten = kept }
+  refusal-told refusal.WriteFault is told kept = absurd is
+  refusal-told refusal.NoMemory is told kept = record { told = told; written = inl kept }
 
   -- a refusal that the answer allows, told
-  pub ended-unwritten : (told : Status) (out err : SinkUse) (refused : Refusal) → IsRefusalOf why ReadFailed refused → IsUnwritten (status_of refused) (line_of refused) told out err →
-      HasEnded IsText why IsRead ReadFailed told out err
-  ended-unwritten told out err refused is call =
-      subst (λ status. HasEnded IsText why IsRead ReadFailed status out err) (sym call.ends) (refusal-told refused out err is call.told call.out_kept)
+  pub ended-unwritten : (told : Status) (refused : Refusal) → IsRefusalOf answer.why ((answer.is_read ≡ true) × call.source.Failed) refused →
+      IsUnwritten (status_of refused) (line_of refused) told call.out call.err → HasEnded answer call told
+  ended-unwritten told refused is unwritten = subst (λ status. HasEnded answer call status) (sym unwritten.ends) (refusal-told refused is unwritten.told unwritten.unwritten)

@@ -8,15 +8,11 @@ use Rattle.call_ending.specs.declared.refusal.Refusal.{Refusal}
 use Rattle.call_ending.specs.declared.refusal.Refusal.TheVariants as refusal
 use Rattle.call_ending.specs.declared.status.Status.{Status}
 use Rattle.call_ending.specs.declared.status.Status.TheVariants as status
+use Rattle.call_ending.specs.Why.{Why}
 
--- why the answer to a call is no text: the status, and the line on err
-pub record Why : Type 0 where
-  pub status : Status
-  pub line : List ℕ
-
-abbrev pub bytes_of : Line → List ℕ
-bytes_of (Fixed line) = line.now
-bytes_of (Made line) = line.items
+abbrev pub line_bytes : Line → List ℕ
+line_bytes (Fixed line) = line.now
+line_bytes (Made line) = line.items
 
 abbrev pub cause_status : Cause → Status
 cause_status cause.Words = status.Words
@@ -32,14 +28,14 @@ status_of refusal.WriteFault = status.WriteFault
 status_of refusal.NoMemory = status.NoMemory
 
 abbrev pub line_of : Refusal → List ℕ
-line_of (refusal.Told by line) = bytes_of line
+line_of (refusal.Told by line) = line_bytes line
 line_of refusal.ReadFault = codes "ctm: read fault\n"
 line_of refusal.WriteFault = codes "ctm: write fault\n"
 line_of refusal.NoMemory = codes "ctm: no memory\n"
 
 -- the refusal is the answer's own, or a read or a request for memory failed on the way to it
 abbrev pub IsRefusalOf : Option Why → (ReadFailed : Type 0) → Refusal → Type 0
-IsRefusalOf why ReadFailed (refusal.Told by line) = why ≡ Some (record { status = cause_status by; line = bytes_of line })
+IsRefusalOf why ReadFailed (refusal.Told by line) = why ≡ Some (record { status = cause_status by; line = line_bytes line })
 IsRefusalOf why ReadFailed refusal.ReadFault = ReadFailed
 IsRefusalOf why ReadFailed refusal.WriteFault = ⊥
 IsRefusalOf why ReadFailed refusal.NoMemory = ⊤

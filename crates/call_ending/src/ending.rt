@@ -1,7 +1,8 @@
 ghost use Rattle.std.specs.Prelude.{◌≡◌, IfErr, IfOk};
-ghost use Rattle.ctm_ports.specs.Count.{Rose};
-ghost use Rattle.call_ending.specs.Ending.{HasWritten, IsTold, IsUnwritten, sink_use};
+ghost use Rattle.call_ending.specs.Calls.{sink_use};
+ghost use Rattle.call_ending.specs.Ending.{HasLine};
 ghost use Rattle.call_ending.specs.Refusing.{line_of, status_of};
+ghost use Rattle.call_ending.specs.Writing.{IsUnwritten, IsWritten};
 
 use crate::refusal::Refusal;
 use crate::status::Status;
@@ -9,12 +10,8 @@ use ctm_ports::{Sink, Written, write_all};
 
 /// Ends a call: writes its text on `out`, or tells on `err` why there is none or why it wasn't written.
 pub fn end<O: Sink, E: Sink>(answer: Result<Vec<u8>, Refusal>, out: &mut O, err: &mut E) -> Status
-    ensures text { IfOk answer (λ text. HasWritten text.items result
-        (sink_use (O.taken out.old) (O.taken out.new) (out.new ≡ out.old) (Rose (O.faults out.old) (O.faults out.new)) (Rose (O.wants out.old) (O.wants out.new)))
-        (sink_use (E.taken err.old) (E.taken err.new) (err.new ≡ err.old) (Rose (E.faults err.old) (E.faults err.new)) (Rose (E.wants err.old) (E.wants err.new)))) }
-    ensures refusal { IfErr answer (λ refusal. IsUnwritten (status_of refusal) (line_of refusal) result
-        (sink_use (O.taken out.old) (O.taken out.new) (out.new ≡ out.old) (Rose (O.faults out.old) (O.faults out.new)) (Rose (O.wants out.old) (O.wants out.new)))
-        (sink_use (E.taken err.old) (E.taken err.new) (err.new ≡ err.old) (Rose (E.faults err.old) (E.faults err.new)) (Rose (E.wants err.old) (E.wants err.new)))) }
+    ensures text { IfOk answer (λ text. IsWritten text.items result (sink_use O.taken O.faults O.wants out.old out.new) (sink_use E.taken E.faults E.wants err.old err.new)) }
+    ensures refusal { IfErr answer (λ refusal. IsUnwritten (status_of refusal) (line_of refusal) result (sink_use O.taken O.faults O.wants out.old out.new) (sink_use E.taken E.faults E.wants err.old err.new)) }
 {
     match answer {
         Ok(text) => match write_all(out, &text) {
@@ -29,8 +26,7 @@ pub fn end<O: Sink, E: Sink>(answer: Result<Vec<u8>, Refusal>, out: &mut O, err:
 /// Tells on `err` why a call has no text, and gives the status with which it ends.
 pub fn tell<E: Sink>(refusal: &Refusal, err: &mut E) -> Status
     ensures status { result ≡ status_of refusal.now }
-    ensures told { IsTold (line_of refusal.now)
-        (sink_use (E.taken err.old) (E.taken err.new) (err.new ≡ err.old) (Rose (E.faults err.old) (E.faults err.new)) (Rose (E.wants err.old) (E.wants err.new))) }
+    ensures told { HasLine (line_of refusal.now) (sink_use E.taken E.faults E.wants err.old err.new) }
 {
     write_all(err, refusal.line());
     refusal.status()

@@ -1,5 +1,5 @@
 ghost use Rattle.std.specs.Prelude.{◌≡◌};
-ghost use Rattle.call_ending.specs.Refusing.{bytes_of, line_of, status_of};
+ghost use Rattle.call_ending.specs.Refusing.{line_bytes, line_of, status_of};
 
 use crate::cause::Cause;
 use crate::status::Status;
@@ -17,7 +17,7 @@ pub enum Line {
 impl Line {
     /// The bytes of the line.
     pub fn bytes(&self) -> &[u8]
-        ensures { result.now ≡ bytes_of self.now }
+        ensures { result.now ≡ line_bytes self.now }
     {
         match self {
             Line::Fixed(line) => line,

@@ -61,10 +61,11 @@ fn check_meeting<R: Abort + Threads + Sync>(
     call_gives(rt, alloc, words, input, &observer, texts, false);
     assert_eq!(rt; observer.met(), 2, "{words}: each waited for the other");
     assert_eq!(rt;
-        observer.notes.steps(),
+        observer.notes.held_steps(),
         [ALL_FOUR; 4],
         "{words}: each was held at each step"
     );
+    check_freed(rt, words, &observer.notes, [ALL_FOUR; 4]);
 }
 
 #[test]
@@ -121,7 +122,8 @@ fn a_run_is_saved_while_a_worker_is_on_its_way(rt: HostRuntime) {
     );
 }
 
-// Looks whether the text of a call is the lines of these texts, and at which steps each region was held.
+// Looks whether the text of a call is the lines of these texts, at which steps each region was held, and that it was freed a step
+// past each.
 fn check_held<R: Abort + Threads + Sync>(
     rt: &R,
     alloc: Global,
@@ -132,7 +134,20 @@ fn check_held<R: Abort + Threads + Sync>(
 ) {
     let observer = Notes::new();
     call_gives(rt, alloc, words, input, &observer, texts, true);
-    assert_eq!(rt; observer.steps(), held, "{words}");
+    assert_eq!(rt; observer.held_steps(), held, "{words}: held");
+    check_freed(rt, words, &observer, held);
+}
+
+// Looks whether each region was freed once a step past each at which it was held.
+fn check_freed<R: Abort>(rt: &R, words: &str, observer: &Notes, held: [u64; 4]) {
+    let [first, second, third, fourth] = held;
+    let freed = [first << 1, second << 1, third << 1, fourth << 1];
+    assert_eq!(rt; observer.freed_steps(), freed, "{words}: freed");
+    let mut frees: u64 = 0;
+    for steps in freed {
+        frees = frees.wrapping_add(u64::from(steps.count_ones()));
+    }
+    assert_eq!(rt; observer.frees(), frees, "{words}: each was told once");
 }
 
 #[test]

@@ -1,34 +1,66 @@
-use region_slots::{Moment, Observer, Sight};
+use region_slots::{Freed, Observer, Taken, Watched, Watching};
 use std::sync::atomic::{AtomicU64, Ordering};
 
-// An observer that notes which of four regions was held at which of 64 steps.
+// An observer that notes which of four regions was held and freed at which of 64 steps, and how often one was freed.
 #[derive(Drop)]
 pub(crate) struct Notes {
-    // For each region a bit for each step, set by whoever holds it.
-    noted: [AtomicU64; 4],
+    // For each region a bit for each step at which it was held.
+    held: [AtomicU64; 4],
+    // And for each at which it was freed.
+    freed: [AtomicU64; 4],
+    frees: AtomicU64,
 }
 
 impl Notes {
     pub(crate) fn new() -> Notes {
         Notes {
-            noted: [
-                AtomicU64::new(0),
-                AtomicU64::new(0),
-                AtomicU64::new(0),
-                AtomicU64::new(0),
-            ],
+            held: none(),
+            freed: none(),
+            frees: AtomicU64::new(0),
         }
     }
 
     // The steps at which each region was held, a bit for each step.
-    pub(crate) fn steps(&self) -> [u64; 4] {
-        let [first, second, third, fourth] = &self.noted;
-        [
-            first.load(Ordering::SeqCst),
-            second.load(Ordering::SeqCst),
-            third.load(Ordering::SeqCst),
-            fourth.load(Ordering::SeqCst),
-        ]
+    pub(crate) fn held_steps(&self) -> [u64; 4] {
+        steps(&self.held)
+    }
+
+    // The steps at which each was freed.
+    pub(crate) fn freed_steps(&self) -> [u64; 4] {
+        steps(&self.freed)
+    }
+
+    // How often one was freed.
+    pub(crate) fn frees(&self) -> u64 {
+        self.frees.load(Ordering::SeqCst)
+    }
+}
+
+// No step of any region.
+fn none() -> [AtomicU64; 4] {
+    [
+        AtomicU64::new(0),
+        AtomicU64::new(0),
+        AtomicU64::new(0),
+        AtomicU64::new(0),
+    ]
+}
+
+// The steps that are noted of each region.
+fn steps(noted: &[AtomicU64; 4]) -> [u64; 4] {
+    let [first, second, third, fourth] = noted;
+    [
+        first.load(Ordering::SeqCst),
+        second.load(Ordering::SeqCst),
+        third.load(Ordering::SeqCst),
+        fourth.load(Ordering::SeqCst),
+    ]
+}
+
+// Notes a step of a region.
+fn note(noted: &[AtomicU64; 4], region: u32, step: u64) {
+    if region < 4 && step < 64 {
+        noted[region as usize].fetch_or(1 << step, Ordering::SeqCst);
     }
 }
 
@@ -39,19 +71,22 @@ impl Observer for Notes {
 
     ghost told_freed = { λ observer run region step. ⊤ };
 
-    ghost told_watched = { λ observer run seen done. ⊤ };
+    ghost told_watching = { λ observer run seen. ⊤ };
 
-    fn held(&self, moment: &Moment) {
-        let (region, step) = (moment.region(), moment.step());
-        if region < 4 && step < 64 {
-            let noted = &self.noted[region as usize];
-            noted.store(noted.load(Ordering::SeqCst) | 1 << step, Ordering::SeqCst);
-        }
+    ghost told_watched = { λ observer run seen shot. ⊤ };
+
+    fn held(&self, taken: Taken) {
+        note(&self.held, taken.region(), taken.step());
     }
 
-    fn freed(&self, moment: &Moment) {}
+    fn freed(&self, freed: Freed) {
+        note(&self.freed, freed.region(), freed.step());
+        self.frees.fetch_add(1, Ordering::SeqCst);
+    }
 
-    fn watched(&self, sight: &Sight) {}
+    fn watching(&self, watching: Watching) {}
+
+    fn watched(&self, watched: Watched) {}
 }
 
 // An observer at which the worker that holds region 0 at step 0 and the one that holds region 2 at step 1 wait for each other, so
@@ -108,20 +143,27 @@ impl Observer for Meeting {
 
     ghost told_freed = { λ observer run region step. ⊤ };
 
-    ghost told_watched = { λ observer run seen done. ⊤ };
+    ghost told_watching = { λ observer run seen. ⊤ };
 
-    fn held(&self, moment: &Moment) {
-        self.notes.held(moment);
-        match (moment.region(), moment.step()) {
+    ghost told_watched = { λ observer run seen shot. ⊤ };
+
+    fn held(&self, taken: Taken) {
+        let (region, step) = (taken.region(), taken.step());
+        self.notes.held(taken);
+        match (region, step) {
             (0, 0) => meet(&self.first, &self.second, &self.first_met),
             (2, 1) => meet(&self.second, &self.first, &self.second_met),
             _ => {}
         }
     }
 
-    fn freed(&self, moment: &Moment) {}
+    fn freed(&self, freed: Freed) {
+        self.notes.freed(freed);
+    }
 
-    fn watched(&self, sight: &Sight) {}
+    fn watching(&self, watching: Watching) {}
+
+    fn watched(&self, watched: Watched) {}
 }
 
 // An observer at which the watcher waits until region 0 was taken to step 1, and the worker who took it until the watcher has
@@ -157,22 +199,24 @@ impl Observer for Glance {
 
     ghost told_freed = { λ observer run region step. ⊤ };
 
-    ghost told_watched = { λ observer run seen done. ⊤ };
+    ghost told_watching = { λ observer run seen. ⊤ };
 
-    fn held(&self, moment: &Moment) {}
+    ghost told_watched = { λ observer run seen shot. ⊤ };
 
-    fn freed(&self, moment: &Moment) {
-        if moment.region() == 0 && moment.step() == 1 {
+    fn held(&self, taken: Taken) {}
+
+    fn freed(&self, freed: Freed) {
+        if freed.region() == 0 && freed.step() == 1 {
             self.moved.store(1, Ordering::SeqCst);
             self.wait_for(&self.shown);
         }
     }
 
-    fn watched(&self, sight: &Sight) {
-        if sight.done() {
-            self.shown.store(1, Ordering::SeqCst);
-        } else {
-            self.wait_for(&self.moved);
-        }
+    fn watching(&self, watching: Watching) {
+        self.wait_for(&self.moved);
+    }
+
+    fn watched(&self, watched: Watched) {
+        self.shown.store(1, Ordering::SeqCst);
     }
 }

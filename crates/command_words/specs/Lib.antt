@@ -1,7 +1,6 @@
 pub mod KnownWords
 pub mod Modes
 pub mod Refusing
-pub mod Sequence
 pub mod Settings
 pub mod Values
 pub mod Words

@@ -32,6 +32,6 @@ fn option<'a>(alloc: Global, setting: Setting) -> Arg<'a>
     ensures rule { rule_of result ≡ option_rule setting }
     ensures own { result.global ≡ false }
 {
-    let word: &'a str = setting.terms().word;
+    let word: &'a str = setting.word();
     Arg::new(alloc, word).long(word)
 }

@@ -24,7 +24,7 @@ pub enum Mode {
     Cut,
     /// Reads the network and writes its counts.
     Check,
-    /// Writes the network again, in the newest form of the file.
+    /// Writes the file again, in format 3 where that is its own, and else in format 2.
     Convert,
 }
 

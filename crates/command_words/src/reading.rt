@@ -1,13 +1,19 @@
-ghost use Rattle.std.specs.Prelude.{◌≡◌, IfOk, IfSome, None, Some, eqb, if◌then◌else◌, map, option_map, string_bytes};
+ghost use Rattle.std.specs.Prelude.{◌≡◌, ◌≤◌, IfOk, IfSome, None, Some, map, option_map, string_bytes};
 ghost use Rattle.clap.specs.Words.{first_of, found_of, rows_of};
-ghost use Rattle.command_words.specs.Settings.{IsAllowed};
+ghost use Rattle.command_words.specs.Settings.{word_of};
+ghost use Rattle.command_words.specs.Values.{AreRegions, cut_named, number_within, regions_named};
 ghost use Rattle.command_words.specs.Words.{IsInRange, request_in, request_of, value_of};
+ghost use Rattle.command_words.specs.declared.cut_kind.CutKind.TheVariants.{Even};
+ghost use Rattle.command_words.specs.declared.region_choice.RegionChoice.TheVariants.{Count};
 
+use crate::cut_kind::CutKind;
 use crate::known_words::{MODE, known_words};
 use crate::mode::Mode;
+use crate::number::number_within;
 use crate::refusal::{WordsRefusal, refusal_by};
+use crate::region_choice::RegionChoice;
 use crate::request::Request;
-use crate::setting::{GROWN, Setting};
+use crate::setting::Setting;
 use clap::ArgMatches;
 use std::alloc::Global;
 
@@ -24,44 +30,77 @@ pub fn read_words(alloc: Global, words: &[String]) -> Result<Request, WordsRefus
     }
 }
 
-// The request of words that `clap` takes.
+// The request of words that `clap` takes: of each option its values, and the one that it has where the words don't give it.
 #[tactic(auto, unfolding(crate::specs::Words::request_in))]
 fn requested(matches: &ArgMatches) -> Option<Request>
     ensures value { result ≡ request_in (rows_of (found_of matches.now)) }
     ensures in_range { IfSome result IsInRange }
 {
     let mode = Mode::named(text_at(matches, MODE)?)?;
+    let given = Given { matches, mode };
     Some(Request {
         mode,
-        regions: unless_chosen(value(matches, mode, Setting::Regions)?),
-        grown: value(matches, mode, Setting::Cutting)? == GROWN,
-        parts: value(matches, mode, Setting::Parts)?,
-        workers: value(matches, mode, Setting::Workers)?,
-        every: value(matches, mode, Setting::Every)?,
-        shots: value(matches, mode, Setting::Shots)?,
-        until: value(matches, mode, Setting::Until)?,
-        size: value(matches, mode, Setting::Size)?,
-        seed: value(matches, mode, Setting::Seed)?,
+        regions: given.regions()?,
+        cut: given.cut()?,
+        parts: given.number(Setting::Parts, 1, 64, 4)?,
+        workers: given.number(Setting::Workers, 1, 16, 1)?,
+        every: given.number(Setting::Every, 0, 100_000, 0)?,
+        shots: given.number(Setting::Shots, 1, 64, 4)?,
+        until: given.number(Setting::Until, 0, 100_000, 0)?,
+        size: given.number(Setting::Size, 1, 10_000, 100)?,
+        seed: given.number(Setting::Seed, 0, 999_999_999, 1)?,
     })
 }
 
-// The number of regions for a value of its option, where it isn't to be chosen.
-fn unless_chosen(value: u32) -> Option<u32>
-    ensures { result ≡ if eqb value 0 then None else Some value }
-{
-    if value == 0 { None } else { Some(value) }
+// What `clap` found in a mode.
+#[derive(Clone, Copy)]
+struct Given<'a, 'b> {
+    matches: &'b ArgMatches<'a>,
+    mode: Mode,
 }
 
-// The value of an option in a mode.
-fn value(matches: &ArgMatches, mode: Mode, setting: Setting) -> Option<u32>
-    ensures value { result ≡ value_of mode setting (rows_of (found_of matches.now)) }
-    ensures in_range { IfSome result (IsAllowed setting) }
-{
-    let terms = setting.terms();
-    match text_at(matches, terms.word) {
-        None => Some(terms.default),
-        Some(text) if mode.takes(setting) => setting.value(text),
-        Some(_) => None,
+impl<'a, 'b> Given<'a, 'b> {
+    // Into how many regions the network is cut.
+    fn regions(&self) -> Option<RegionChoice>
+        ensures value { result ≡ value_of self.now.mode Setting.Regions regions_named (Count 1) (rows_of (found_of self.now.matches.now)) }
+        ensures in_range { IfSome result AreRegions }
+    {
+        match self.text(Setting::Regions) {
+            None => Some(RegionChoice::Count(1)),
+            Some(text) if self.mode.takes(Setting::Regions) => RegionChoice::named(text),
+            Some(_) => None,
+        }
+    }
+
+    // Into which.
+    fn cut(&self) -> Option<CutKind>
+        ensures { result ≡ value_of self.now.mode Setting.Cutting cut_named Even (rows_of (found_of self.now.matches.now)) }
+    {
+        match self.text(Setting::Cutting) {
+            None => Some(CutKind::Even),
+            Some(text) if self.mode.takes(Setting::Cutting) => CutKind::named(text),
+            Some(_) => None,
+        }
+    }
+
+    // The number of an option, from the least to the most.
+    fn number(&self, setting: Setting, least: u32, most: u32, default: u32) -> Option<u32>
+        requires default { (least ≤ default) × (default ≤ most) }
+        ensures value { result ≡ value_of self.now.mode setting (number_within least most) default (rows_of (found_of self.now.matches.now)) }
+        ensures in_range { IfSome result (λ number. (least ≤ number) × (number ≤ most)) }
+    {
+        match self.text(setting) {
+            None => Some(default),
+            Some(text) if self.mode.takes(setting) => number_within(text, least, most),
+            Some(_) => None,
+        }
+    }
+
+    // The text that the words give for an option.
+    fn text(&self, setting: Setting) -> Option<&'a str>
+        ensures { option_map (λ text. text.now) result ≡ first_of (word_of setting) (rows_of (found_of self.now.matches.now)) }
+    {
+        text_at(self.matches, setting.word())
     }
 }
 

@@ -1,14 +1,16 @@
+use crate::cut_kind::CutKind;
 use crate::mode::Mode;
+use crate::region_choice::RegionChoice;
 
 /// What the words ask for. An option that they don't give has its default.
 #[derive(Clone, Copy, Debug, PartialEq, Eq)]
 pub struct Request {
     /// What to do.
     pub mode: Mode,
-    /// Into how many regions the network is cut, 1 to 512; where there is no number, it is chosen by the cells and the workers.
-    pub regions: Option<u32>,
-    /// Whether the regions are grown along the roads, and not even in the order of the file.
-    pub grown: bool,
+    /// Into how many regions the network is cut.
+    pub regions: RegionChoice,
+    /// Into which.
+    pub cut: CutKind,
     /// Into how many parts of about as many steps a run is cut, each in a cutting of its own, 1 to 64.
     pub parts: u32,
     /// How many workers take the regions through the steps, 1 to 16.

@@ -1,11 +1,5 @@
-ghost use Rattle.std.specs.Prelude.{◌≡◌, IfSome};
-ghost use Rattle.command_words.specs.Settings.{IsAllowed, terms_of};
-ghost use Rattle.command_words.specs.Values.{AreFew, value_among, values_kept};
-
-use crate::values::Values;
-
-/// The place of the word for grown regions among the values of [`Setting::Cutting`].
-pub(crate) const GROWN: u32 = 1;
+ghost use Rattle.std.specs.Prelude.{◌≡◌};
+ghost use Rattle.command_words.specs.Settings.{word_of};
 
 /// An option of the command line.
 #[derive(Clone, Copy, Debug, PartialEq, Eq)]
@@ -30,58 +24,21 @@ pub enum Setting {
     Seed,
 }
 
-/// The word of an option, and its values.
-#[derive(Clone, Copy)]
-pub struct Terms {
-    /// The word that stands behind `--`.
-    pub word: &'static str,
-    /// The values that it may have.
-    pub values: Values,
-    /// The value where the words don't give the option.
-    pub default: u32,
-}
-
-impl Terms {
-    fn new(word: &'static str, values: Values, default: u32) -> Terms
-        ensures word { result.word ≡ word.entry }
-        ensures values { result.values ≡ values }
-        ensures default { result.default ≡ default }
-    {
-        Terms {
-            word,
-            values,
-            default,
-        }
-    }
-}
-
 impl Setting {
-    /// The table of options, the same in every mode.
-    pub fn terms(self) -> Terms
-        ensures word { result.word.now ≡ (terms_of self).word }
-        ensures values { values_kept result.values ≡ (terms_of self).values }
-        ensures few { AreFew (terms_of self).values }
-        ensures default { result.default ≡ (terms_of self).default }
+    /// The word that stands behind `--`.
+    pub fn word(self) -> &'static str
+        ensures { result.now ≡ word_of self }
     {
-        // Each line has its line in `terms_of` (specs/Settings.antt).
         match self {
-            Setting::Regions => Terms::new("regions", Values::NumbersOr(512, "auto"), 1),
-            Setting::Cutting => Terms::new("cut", Values::Words(&["even", "grown"]), 0),
-            Setting::Parts => Terms::new("parts", Values::Numbers(1, 64), 4),
-            Setting::Workers => Terms::new("workers", Values::Numbers(1, 16), 1),
-            Setting::Every => Terms::new("every", Values::Numbers(0, 100_000), 0),
-            Setting::Shots => Terms::new("shots", Values::Numbers(1, 64), 4),
-            Setting::Until => Terms::new("until", Values::Numbers(0, 100_000), 0),
-            Setting::Size => Terms::new("size", Values::Numbers(1, 10_000), 100),
-            Setting::Seed => Terms::new("seed", Values::Numbers(0, 999_999_999), 1),
+            Setting::Regions => "regions",
+            Setting::Cutting => "cut",
+            Setting::Parts => "parts",
+            Setting::Workers => "workers",
+            Setting::Every => "every",
+            Setting::Shots => "shots",
+            Setting::Until => "until",
+            Setting::Size => "size",
+            Setting::Seed => "seed",
         }
-    }
-
-    /// The value that a text stands for, where the option has it.
-    pub fn value(self, text: &str) -> Option<u32>
-        ensures value { result ≡ value_among (terms_of self).values text.now }
-        ensures in_range { IfSome result (IsAllowed self) }
-    {
-        self.terms().values.value(text)
     }
 }

@@ -2,7 +2,7 @@
 use Rattle.std.specs.Prelude.{Option, Some, None}
 use Rattle.std.proofs.Common.{◌≡◌, ℕ, ◌<◌, ◌≤◌, refl, sym, ◌∙◌, arith}
 use Rattle.timelines.specs.Timelines.{IsSteady, value_at}
-use Rattle.signal_plan.specs.Limits.{most_steps}
+use Rattle.step_plan.specs.Limits.{most_steps}
 use Rattle.timelines.specs.Cells.{cell_most}
 use Rattle.connector_flow.specs.Limits.{AreInForce, AreKept, HaveTimelinesCome, limits_of_timelines, limits_in, moved_to}
 use Rattle.connector_flow.specs.Weights.{AreWeights}

@@ -1,9 +1,7 @@
-pub mod Factors
+pub mod Ratios
 pub mod Boundless
-pub mod Reciprocals
 pub mod Weights
 pub mod Bounding
 pub mod Spaces
-pub mod Slowed
 pub mod Made
 pub mod Nothing

@@ -2,17 +2,17 @@
 use Rattle.std.specs.Prelude.{All, IfOk, Result, slice_index}
 use Rattle.std.proofs.Common.{◌≡◌, ℕ, zero, suc, ◌<◌, List, [], ◌∷◌, length, get_or, refl, sym, ap, subst, ◌∙◌, arith}
 use Rattle.std.proofs.lemmas.Result.{IfOk-weaker}
-use Rattle.signal_plan.specs.Turning.{shares_at}
+use Rattle.step_plan.specs.Turning.{shares_at}
 use Rattle.no_memory.specs.declared.memory.NoMemory.{NoMemory}
-use Rattle.network_file.specs.Connectors.{connector_at}
-use Rattle.network_file.specs.Network.{IsNetwork, IsSoundConnector, Network}
+use Rattle.network_file.specs.Numbered.{connector_at}
+use Rattle.network_file.specs.Network.{Network}
+use Rattle.network_file.specs.Sound.{IsNetwork, IsSoundConnector}
 use Rattle.network_file.specs.declared.connector.Connector.{Connector}
 use Rattle.network_file.specs.declared.connector.Connector.TheVariants.{Link, Merge, Diverge}
 use Rattle.network_file.proofs.NetworkFacts.{connector_at-sound, read_connector}
 use Rattle.connector_flow.specs.Limits.{limits_by}
-use Rattle.connector_flow.specs.Flows.{ConnectorValues, LimitedValues, carried_by, flow_at, limited_flow, limits_of}
-use Rattle.connector_flow.specs.Slowing.{slowed_by}
-use Rattle.connector_flow.specs.Following.{IsConnectorOf, IsTimelineOf}
+use Rattle.connector_flow.specs.Flows.{ConnectorValues, carried_by, flow_at, limits_of}
+use Rattle.connector_flow.specs.Following.{IsConnectorOf, IsTimelineOf, given_in}
 use Rattle.timelines.specs.Timelines.{TimelineValue, value_at}
 use Rattle.connector_flow.specs.declared.limits.Limits.{Limits}
 use Rattle.connector_flow.specs.declared.rule.Rule.{Rule}
@@ -21,28 +21,26 @@ use Rattle.connector_flow.specs.declared.rule.Rule.TheVariants.{Linking, Merging
 use Rattle.connector_flow.proofs.Spaces.{receiving-is, sending-is}
 
 -- what is carried within the limits of a step is what the timeline carries then
-pub flow-within : (timeline : LimitedValues) (limits : Limits) (t : ℕ) (n : List ℕ) → limits_of timeline t ≡ limits →
-    carried_by timeline.rule limits timeline.second_space timeline.third_space n ≡ limited_flow timeline t n
-unfolding limited_flow
+pub flow-within : (timeline : ConnectorValues) (limits : Limits) (t : ℕ) (n : List ℕ) → limits_of timeline t ≡ limits →
+    carried_by timeline.rule limits timeline.second_space timeline.third_space n ≡ flow_at timeline t n
+unfolding flow_at
 flow-within timeline limits t n is = ap (λ one. carried_by timeline.rule one timeline.second_space timeline.third_space n) (sym is)
 
 -- the same limits in all steps carry the same
-pub flow-same : (old new : LimitedValues) (t : ℕ) (n : List ℕ) → new.rule ≡ old.rule → new.second_space ≡ old.second_space →
-    new.third_space ≡ old.third_space → limits_of new t ≡ limits_of old t → limited_flow new t n ≡ limited_flow old t n
-unfolding limited_flow
+pub flow-same : (old new : ConnectorValues) (t : ℕ) (n : List ℕ) → new.rule ≡ old.rule → new.second_space ≡ old.second_space →
+    new.third_space ≡ old.third_space → limits_of new t ≡ limits_of old t → flow_at new t n ≡ flow_at old t n
+unfolding flow_at
 flow-same old new t n rule second third limits = rw (rule, second, third, limits) refl
 
 flow-made : (net : Network) (rule : Rule) (cells : List ℕ) (weights : TimelineValue (ℕ × ℕ)) (timeline : ConnectorValues) (t : ℕ) (n : List ℕ) →
     IsConnectorOf net rule cells weights timeline → t < net.steps →
-    flow_at timeline t n ≡
-    carried_by rule (limits_by net.plan rule cells weights t) timeline.limited.second_space timeline.limited.third_space (slowed_by timeline.slowing t n)
+    flow_at timeline t n ≡ carried_by rule (limits_by net.plan rule cells weights t) timeline.second_space timeline.third_space n
 unfolding flow_at
 flow-made net rule cells weights timeline t n has before =
-    let second : Space = timeline.limited.second_space in
-    let third : Space = timeline.limited.third_space in
-    let moving : List ℕ = slowed_by timeline.slowing t n in
-    ap (λ one. carried_by one (limits_of timeline.limited t) second third moving) has.rule_is
-    ∙ ap (λ limits. carried_by rule limits second third moving) (has.made.limits t before)
+    let second : Space = timeline.second_space in
+    let third : Space = timeline.third_space in
+    ap (λ one. carried_by one (limits_of timeline t) second third n) has.rule_is
+    ∙ ap (λ limits. carried_by rule limits second third n) (has.limits t before)
 
 pub made-link : (net : Network) (up down : ℕ) (weights : TimelineValue (ℕ × ℕ)) (timeline : ConnectorValues) → IsNetwork net →
     IsSoundConnector net.cells (Link up down) → IsConnectorOf net Linking (up ∷ down ∷ down ∷ []) weights timeline → IsTimelineOf net (Link up down) timeline
@@ -51,9 +49,8 @@ made-link net up down weights timeline sound connector made = record {
   flow = λ t n before held.
       let there : down < length net.cells = (connector.down 0 0 (omega arith)).0 in
       let s = sending-is net t up (slice_index n 0) in
-      let r = receiving-is net t down (slice_index n 1) timeline.limited.second_space sound before there made.made.second (held.each 1 (omega arith)) in
-      let moving = made.slowing in
-      flow-made net Linking (up ∷ down ∷ down ∷ []) weights timeline t n made before ∙ rw (moving.first t n, moving.second t n, s, r) refl;
+      let r = receiving-is net t down (slice_index n 1) timeline.second_space sound before there made.second (held.each 1 (omega arith)) in
+      flow-made net Linking (up ∷ down ∷ down ∷ []) weights timeline t (given_in net t (Link up down) n) made before ∙ rw (s, r) refl;
 }
 
 pub made-merge : (net : Network) (up1 up2 down p1 p2 : ℕ) (weights : TimelineValue (ℕ × ℕ)) (timeline : ConnectorValues) → IsNetwork net →
@@ -65,10 +62,9 @@ made-merge net up1 up2 down p1 p2 weights timeline sound connector are made = re
       let there : down < length net.cells = (connector.down 0 0 (omega arith)).0 in
       let s1 = sending-is net t up1 (slice_index n 0) in
       let s2 = sending-is net t up2 (slice_index n 1) in
-      let r = receiving-is net t down (slice_index n 2) timeline.limited.third_space sound before there made.made.third (held.each 2 (omega arith)) in
-      let moving = made.slowing in
-      flow-made net Merging (up1 ∷ up2 ∷ down ∷ []) weights timeline t n made before
-      ∙ rw (moving.first t n, moving.second t n, moving.third t n, s1, s2, r, are t) refl;
+      let r = receiving-is net t down (slice_index n 2) timeline.third_space sound before there made.third (held.each 2 (omega arith)) in
+      flow-made net Merging (up1 ∷ up2 ∷ down ∷ []) weights timeline t (given_in net t (Merge up1 up2 down p1 p2) n) made before
+      ∙ rw (s1, s2, r, are t) refl;
 }
 
 pub made-diverge : (net : Network) (up down1 down2 b1 b2 : ℕ) (weights : TimelineValue (ℕ × ℕ)) (timeline : ConnectorValues) → IsNetwork net →
@@ -80,11 +76,10 @@ made-diverge net up down1 down2 b1 b2 weights timeline sound connector are made 
       let there1 : down1 < length net.cells = (connector.down 0 0 (omega arith)).0 in
       let there2 : down2 < length net.cells = (connector.down 1 0 (omega arith)).0 in
       let s = sending-is net t up (slice_index n 0) in
-      let r1 = receiving-is net t down1 (slice_index n 1) timeline.limited.second_space sound before there1 made.made.second (held.each 1 (omega arith)) in
-      let r2 = receiving-is net t down2 (slice_index n 2) timeline.limited.third_space sound before there2 made.made.third (held.each 2 (omega arith)) in
-      let moving = made.slowing in
-      flow-made net Diverging (up ∷ down1 ∷ down2 ∷ []) weights timeline t n made before
-      ∙ rw (moving.first t n, moving.second t n, moving.third t n, s, r1, r2, are t) refl;
+      let r1 = receiving-is net t down1 (slice_index n 1) timeline.second_space sound before there1 made.second (held.each 1 (omega arith)) in
+      let r2 = receiving-is net t down2 (slice_index n 2) timeline.third_space sound before there2 made.third (held.each 2 (omega arith)) in
+      flow-made net Diverging (up ∷ down1 ∷ down2 ∷ []) weights timeline t (given_in net t (Diverge up down1 down2 b1 b2) n) made before
+      ∙ rw (s, r1, r2, are t) refl;
 }
 
 -- the cells of a merge are there, and those of a diverge

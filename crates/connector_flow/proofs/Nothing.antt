@@ -7,7 +7,7 @@ use Rattle.merge_rule.proofs.MergeFacts.{merge_of-room}
 use Rattle.flow_model.specs.Flows.{diverge_carries, link_carries, merge_carries}
 use Rattle.flow_model.specs.declared.carried.Flow.{Flow}
 use Rattle.connector_flow.specs.Limits.{AreInForce, AreKept, limits_of_timelines, limits_in}
-use Rattle.connector_flow.specs.Flows.{LimitedValues, carried_by, limited_flow, no_flow}
+use Rattle.connector_flow.specs.Flows.{ConnectorValues, carried_by, flow_at, no_flow}
 use Rattle.timelines.specs.Timelines.{value_at}
 use Rattle.connector_flow.specs.declared.limit_timelines.LimitTimelines.{LimitTimelines}
 use Rattle.connector_flow.specs.declared.limits.Limits.{Limits}
@@ -39,8 +39,8 @@ kept-steady None limits step until s has from within = refl
 kept-steady (Some timelines) limits step until s has from within = has.steady s from within
 
 -- a connector whose limits never change carries the same in each step
-pub flow-stays : (timeline : LimitedValues) (s t : ℕ) (n : List ℕ) → timeline.timelines ≡ None → limited_flow timeline s n ≡ limited_flow timeline t n
-unfolding limited_flow limits_in
+pub flow-stays : (timeline : ConnectorValues) (s t : ℕ) (n : List ℕ) → timeline.timelines ≡ None → flow_at timeline s n ≡ flow_at timeline t n
+unfolding flow_at limits_in
 flow-stays timeline s t n never = rw never refl
 
 -- the weights of a step are those of its limits
@@ -52,7 +52,7 @@ pub weights-in : (timelines : LimitTimelines) (limits : Limits) (step until : �
 weights-in timelines limits step until has = sym (weights-of timelines step) ∙ ap (λ one. one.weights) (has.steady step (omega arith) has.later)
 
 -- what a connector carries by its timelines
-pub flow-some : (timeline : LimitedValues) (timelines : LimitTimelines) (s : ℕ) (n : List ℕ) → timeline.timelines ≡ Some timelines →
-    limited_flow timeline s n ≡ carried_by timeline.rule (limits_of_timelines timelines s) timeline.second_space timeline.third_space n
-unfolding limited_flow limits_in
+pub flow-some : (timeline : ConnectorValues) (timelines : LimitTimelines) (s : ℕ) (n : List ℕ) → timeline.timelines ≡ Some timelines →
+    flow_at timeline s n ≡ carried_by timeline.rule (limits_of_timelines timelines s) timeline.second_space timeline.third_space n
+unfolding flow_at limits_in
 flow-some timeline timelines s n some = rw some refl

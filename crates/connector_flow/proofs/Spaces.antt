@@ -3,11 +3,12 @@ use Rattle.std.specs.Prelude.{Bool, Option, Some, None, if◌then◌else◌}
 use Rattle.std.proofs.Common.{◌≡◌, ℕ, ◌+◌, ◌<◌, ◌≤◌, true, false, min, length, refl, ap, arith}
 use Rattle.ordinary_link.specs.Flows.{receiving_flow, sending_flow}
 use Rattle.ordinary_link.specs.declared.space.Room.{Room}
-use Rattle.signal_plan.specs.Capacity.{capacity_at}
-use Rattle.signal_plan.specs.Green.{green_at}
-use Rattle.signal_plan.specs.Speeds.{arriving, speed_at}
+use Rattle.step_plan.specs.Capacity.{capacity_at}
+use Rattle.step_plan.specs.Green.{green_at}
+use Rattle.step_plan.specs.Speeds.{arriving, speed_at}
 use Rattle.network_file.specs.Cells.{is_exit, is_gate, is_road}
-use Rattle.network_file.specs.Network.{IsNetwork, Network}
+use Rattle.network_file.specs.Network.{Network}
+use Rattle.network_file.specs.Sound.{IsNetwork}
 use Rattle.network_file.specs.declared.cell.Kind.{Kind}
 use Rattle.network_file.specs.declared.cell.Kind.TheVariants.{Road, Gate, Exit}
 use Rattle.network_file.specs.Limits.{most_capacity}

@@ -2,12 +2,14 @@
 use Rattle.std.specs.Prelude.{All}
 use Rattle.std.proofs.Common.{◌≡◌, ℕ, ◌≤◌, sym, subst}
 use Rattle.std.proofs.lemmas.List.Elements.{All-weaker}
-use Rattle.signal_plan.specs.Records.{TurnRecord}
-use Rattle.signal_plan.specs.Sound.{IsSoundTurn}
-use Rattle.signal_plan.specs.Turning.{shares_at}
-use Rattle.signal_plan.specs.Limits.{most_steps}
-use Rattle.signal_plan.proofs.Laws.{shares_at-all}
-use Rattle.network_file.specs.Network.{IsNetwork, IsPlannedCell, Network}
+use Rattle.step_plan.specs.Records.{TurnRecord}
+use Rattle.step_plan.specs.Sound.{IsSoundTurn}
+use Rattle.step_plan.specs.Turning.{shares_at}
+use Rattle.step_plan.specs.Limits.{most_steps}
+use Rattle.step_plan.proofs.Laws.{shares_at-all}
+use Rattle.network_file.specs.Network.{Network}
+use Rattle.network_file.specs.Sound.{IsNetwork}
+use Rattle.network_file.proofs.PlanFacts.{all-planned}
 use Rattle.timelines.specs.Timelines.{TimelineValue, value_at}
 use Rattle.connector_flow.specs.Weights.{AreBoth, AreWeights, IsWeight}
 
@@ -20,9 +22,8 @@ pub shares-within : (net : Network) (weights : TimelineValue (ℕ × ℕ)) (up b
     ((t : ℕ) → value_at weights t ≡ shares_at net.plan up t (b1, b2)) → AreWeights weights
 shares-within net weights up b1 b2 sound first second is =
     let turns : All (λ planned. All (λ turn. AreBoth (turn.b1, turn.b2)) planned.records.turns) net.plan.cells =
-    All-weaker (IsPlannedCell net.cells) (λ planned. All (λ turn. AreBoth (turn.b1, turn.b2)) planned.records.turns)
-    (λ planned fits. All-weaker (λ (turn : TurnRecord). (turn.to ≤ most_steps) × IsSoundTurn turn) (λ turn. AreBoth (turn.b1, turn.b2))
+    all-planned (λ planned. All (λ turn. AreBoth (turn.b1, turn.b2)) planned.records.turns) net sound
+    (λ k planned fits. All-weaker (λ (turn : TurnRecord). (turn.to ≤ most_steps) × IsSoundTurn turn) (λ turn. AreBoth (turn.b1, turn.b2))
     (λ turn within. record { first = (within.1.some_first, within.1.first); second = (within.1.some_second, within.1.second) })
-    planned.records.turns fits.turns)
-    net.plan.cells sound.sound.planned.planned in
+    planned.records.turns fits.turns) in
     λ t. subst (λ pair. AreBoth pair) (sym (is t)) (shares_at-all AreBoth net.plan up t (b1, b2) (record { first = first; second = second }) turns)

@@ -5,7 +5,6 @@ use Rattle.flow_model.specs.declared.carried.Flow.{Flow}
 use Rattle.connector_flow.specs.Space.{let_in}
 use Rattle.connector_flow.specs.declared.space.Space.{Space}
 use Rattle.connector_flow.specs.Limits.{limits_in}
-use Rattle.connector_flow.specs.Slowing.{SlowingValues, slowed_by}
 use Rattle.connector_flow.specs.declared.limit_timelines.LimitTimelines.{LimitTimelines}
 use Rattle.connector_flow.specs.declared.limits.Limits.{Limits}
 use Rattle.connector_flow.specs.declared.rule.Rule.{Rule}
@@ -13,7 +12,7 @@ use Rattle.connector_flow.specs.declared.rule.Rule.TheVariants.{Linking, Merging
 
 -- a connector within its limits, as contracts see it: its rule, what changes of it, the limits that are in force, the spaces
 -- of its second cell and of its third, the step that was come to, and the first at which these limits may change
-pub record LimitedValues : Type 0 where
+pub record ConnectorValues : Type 0 where
   pub rule : Rule
   pub timelines : Option LimitTimelines
   pub limits : Limits
@@ -26,7 +25,7 @@ pub record LimitedValues : Type 0 where
 abbrev pub received : (most : ℕ) → Space → (n : ℕ) → ℕ
 received most space n = min most (let_in space n)
 
--- what it carries within these limits where its cells hold n
+-- what it carries within these limits where it is given n: of cells that send the parts at their ends, of others what they hold
 abbrev pub carried_by : Rule → Limits → (second_space third_space : Space) → (n : List ℕ) → Flow
 carried_by Linking limits second_space third_space n =
     link_carries (min limits.first (slice_index n 0)) (received limits.second second_space (slice_index n 1))
@@ -42,28 +41,9 @@ abbrev pub no_flow : Flow
 no_flow = record { out1 = 0; out2 = 0; in1 = 0; in2 = 0 }
 
 -- what bounds its flow in step t
-abbrev pub limits_of : LimitedValues → (t : ℕ) → Limits
+abbrev pub limits_of : ConnectorValues → (t : ℕ) → Limits
 limits_of timeline t = limits_in timeline.timelines timeline.limits t
 
--- what it carries in step t where so many parts of its cells' come to their ends
-unfoldable pub limited_flow : LimitedValues → (t : ℕ) → (n : List ℕ) → Flow
-limited_flow timeline t n = carried_by timeline.rule (limits_of timeline t) timeline.second_space timeline.third_space n
-
--- the first step at which its limits or its speeds may change
-abbrev pub until_of : LimitedValues → Option SlowingValues → ℕ
-until_of limited None = limited.until
-until_of limited (Some slowing) = min limited.until slowing.until
-
--- a connector as contracts see it: its rule, its limits, its speeds where it has any, the step that was come to, and the first
--- at which these limits or speeds may change
-pub record ConnectorValues : Type 0 where
-  pub rule : Rule
-  pub limited : LimitedValues
-  pub slowing : Option SlowingValues
-  pub step : ℕ
-  pub until : ℕ
-
--- what it carries in step t where its cells hold n
+-- what it carries in step t where it is given n
 unfoldable pub flow_at : ConnectorValues → (t : ℕ) → (n : List ℕ) → Flow
-flow_at timeline t n =
-    carried_by timeline.rule (limits_of timeline.limited t) timeline.limited.second_space timeline.limited.third_space (slowed_by timeline.slowing t n)
+flow_at timeline t n = carried_by timeline.rule (limits_of timeline t) timeline.second_space timeline.third_space n

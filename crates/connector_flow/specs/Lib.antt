@@ -1,7 +1,6 @@
 pub mod Space
 pub mod Weights
-pub mod Factors
+pub mod Ratios
 pub mod Limits
-pub mod Slowing
 pub mod Flows
 pub mod Following

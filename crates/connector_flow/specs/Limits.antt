@@ -1,7 +1,7 @@
 -- What bounds the flow of a connector from step to step.
 use Rattle.std.specs.Prelude.{◌≡◌, ℕ, ◌<◌, ◌≤◌, Bool, true, false, List, Option, Some, None, slice_index}
-use Rattle.signal_plan.specs.Records.{PlanRecords}
-use Rattle.signal_plan.specs.Limits.{most_steps}
+use Rattle.step_plan.specs.Records.{PlanRecords}
+use Rattle.step_plan.specs.Limits.{most_steps}
 use Rattle.timelines.specs.Cells.{cell_most, most_by}
 use Rattle.connector_flow.specs.Weights.{AreWeights}
 use Rattle.timelines.specs.Timelines.{TimelineValue, value_at}

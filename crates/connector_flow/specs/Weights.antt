@@ -1,6 +1,6 @@
 -- The weights of a connector: the priorities of a merge, the turning shares of a diverge.
-use Rattle.std.specs.Prelude.{ℕ, ◌≤◌}
-use Rattle.signal_plan.specs.Limits.{most_ratio}
+use Rattle.std.specs.Prelude.{◌≡◌, ℕ, ◌+◌, ◌≤◌}
+use Rattle.step_plan.specs.Limits.{most_ratio}
 use Rattle.timelines.specs.Timelines.{TimelineValue, value_at}
 
 -- a priority or a turning share
@@ -11,6 +11,11 @@ IsWeight weight = (1 ≤ weight) × (weight ≤ most_ratio)
 pub record AreBoth (pair : ℕ × ℕ) : Type 0 where
   pub first : IsWeight pair.0
   pub second : IsWeight pair.1
+
+-- and this is the ratio of one to both together
+pub record HaveShare (pair : ℕ × ℕ) (share : ℕ × ℕ) : Type 0 where
+  pub weights : AreBoth pair
+  pub share_is : (1, pair.0 + pair.1) ≡ share
 
 -- so are both in each step
 abbrev pub AreWeights : TimelineValue (ℕ × ℕ) → Type 0

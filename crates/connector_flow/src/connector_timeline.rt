@@ -1,45 +1,58 @@
-ghost use Rattle.std.specs.Prelude.{◌≡◌, ◌≤◌, ◌<◌, ℕ, All, IfOk, List, length};
-ghost use Rattle.network_file.specs.Connectors.{connector_at};
+ghost use Rattle.std.specs.Prelude.{◌≡◌, ◌≤◌, ◌<◌, ℕ, All, IfOk, IsTrue, List, length};
+ghost use Rattle.network_file.specs.Numbered.{connector_at};
 ghost use Rattle.connector_flow.specs.Following.{IsTimelineOf, IsConnectorOf};
 ghost use Rattle.connector_flow.specs.Weights.{AreWeights};
 
-use crate::idling::carries_nothing;
-use crate::limited_timeline::LimitedTimeline;
+use crate::carrying::carried;
+use crate::cell_space::space_of;
+use crate::idling::{carries_nothing, sends_nothing};
+use crate::limit_timelines::LimitTimelines;
+use crate::limits::Limits;
 use crate::rule::Rule;
-use crate::slowing::{Slowing, slowing_of};
+use crate::space::Space;
+use crate::weight_pair::WeightPair;
 use flow_model::Flow;
 use network_file::{Connector, Net};
 use no_memory::NoMemory;
-use signal_plan::MOST_STEPS;
 use std::alloc::Global;
 use std::marker::Model;
+use step_plan::MOST_STEPS;
 use timelines::{Timeline, shares_of};
 
-/// What a connector carries in a step, followed forward from step 0: within the limits of its cells, of the parts that reach
-/// the ends of those upstream.
+/// What a connector carries in a step within what its cells send and receive at most, followed forward from step 0.
+///
+/// Most connectors carry within the same limits in all steps. What changes of the others stands apart, so that all that a
+/// step touches lies close together.
 #[derive(Drop)]
 pub struct ConnectorTimeline {
-    limited: LimitedTimeline,
-    // The speeds of its cells upstream, where one of these has speed records.
-    slowing: Option<Box<Slowing>>,
+    rule: Rule,
+    step: u64,
+    // What bounds its flow from its step on, and the first step at which that may change.
+    limits: Limits,
+    until: u64,
+    second_space: Space,
+    third_space: Space,
+    timelines: Option<Box<LimitTimelines>>,
 }
 
 impl Model for ConnectorTimeline {
     ghost use Rattle.std.specs.Option.{option_map};
-    ghost use Rattle.connector_flow.specs.Flows.{ConnectorValues, until_of};
-    ghost use Rattle.connector_flow.specs.Slowing.{IsSlowedWith};
+    ghost use Rattle.connector_flow.specs.Flows.{ConnectorValues};
+    ghost use Rattle.connector_flow.specs.Limits.{AreKept};
 
     ghost Value = { ConnectorValues };
 
     ghost view = { λ timeline. record {
-      rule = timeline.limited.rule;
-      limited = timeline.limited;
-      slowing = option_map (λ own. own.value) timeline.slowing;
-      step = timeline.limited.step;
-      until = until_of timeline.limited (option_map (λ own. own.value) timeline.slowing);
+      rule = timeline.rule;
+      timelines = option_map (λ own. own.value) timeline.timelines;
+      limits = timeline.limits;
+      second_space = timeline.second_space;
+      third_space = timeline.third_space;
+      step = timeline.step;
+      until = timeline.until;
     } };
 
-    ghost invariant = { λ timeline. IsSlowedWith timeline.limited.step (option_map (λ own. own.value) timeline.slowing) };
+    ghost invariant = { λ timeline. AreKept (option_map (λ own. own.value) timeline.timelines) timeline.limits timeline.step timeline.until };
 }
 
 impl ConnectorTimeline {
@@ -84,18 +97,14 @@ impl ConnectorTimeline {
     pub fn rule(&self) -> Rule
         ensures { result ≡ self.now.rule }
     {
-        self.limited.rule()
+        self.rule
     }
 
-    /// Up to which step from its own on it carries within the same limits and at the same speeds, `u64::MAX` where they never
-    /// change.
+    /// Up to which step from its own on it carries within the same limits, `u64::MAX` where they never change.
     pub fn until(&self) -> u64
         ensures { result ≡ self.now.until }
     {
-        match &self.slowing {
-            None => self.limited.until(),
-            Some(slowing) => self.limited.until().min(slowing.until()),
-        }
+        self.until
     }
 
     /// Follows it to step `t`. Where nothing changes by then it does next to nothing.
@@ -107,41 +116,60 @@ impl ConnectorTimeline {
         ensures later { t < self.new.until }
         ensures flow { (s : ℕ) (n : List ℕ) → flow_at self.new s n ≡ flow_at self.old s n }
     {
-        self.limited.refresh(t);
-        if let Some(slowing) = &mut self.slowing {
-            slowing.move_to(t);
+        if self.until <= t {
+            if let Some(timelines) = &mut self.timelines {
+                let now = timelines.move_to(t, self.limits.weights);
+                self.limits = now.value;
+                self.until = now.until;
+            }
         }
+        self.step = t;
     }
 
-    /// What the connector carries from its step on as long as its limits and speeds stay, where its cells hold `n` parts, in
-    /// the order of the connector's fields. The place of `n` past its cells is not read.
+    /// What the connector carries from its step on as long as its limits stay. `n` is in the order of the connector's
+    /// fields: of cells that send the parts that come to their ends, of others what they hold. The place past its cells isn't
+    /// read.
     #[inline(always)]
     pub fn flow(&self, n: [u64; 3]) -> Flow
         ensures now { result ≡ flow_at self.now self.now.step n }
         ensures later { (t : ℕ) → self.now.step ≤ t → t < self.now.until → result ≡ flow_at self.now t n }
     {
-        match &self.slowing {
-            None => self.limited.flow(n),
-            Some(slowing) => self.limited.flow(slowing.slowed(n)),
-        }
+        carried(
+            self.rule,
+            self.limits,
+            self.second_space,
+            self.third_space,
+            n,
+        )
     }
 
-    /// A step before which the connector carries nothing as long as its cells hold `n` parts: 0 where it carries something.
-    /// Where no cell upstream has speed records, it is `u64::MAX` if nothing changes, or nothing is there to send.
+    /// A step before which the connector carries nothing as long as `n` stays: 0 where it carries something, `u64::MAX` where
+    /// its limits never change, or nothing is there to send.
     pub fn idle_until(&self, n: [u64; 3]) -> u64
         ensures { (s : ℕ) → self.now.step ≤ s → s < result → flow_at self.now s n ≡ no_flow }
     {
-        if self.slowing.is_none() {
-            self.limited.idle_until(n)
-        } else if carries_nothing(self.flow(n)) {
-            self.until()
-        } else {
+        if !carries_nothing(self.flow(n)) {
             0
+        } else if self.stays_idle(n) {
+            u64::MAX
+        } else {
+            self.until
+        }
+    }
+
+    // Whether no change of its limits lets it carry something, where it carries nothing at its step.
+    fn stays_idle(&self, n: [u64; 3]) -> bool
+        requires { flow_at self.now self.now.step n ≡ no_flow }
+        ensures { IsTrue result → (s : ℕ) → flow_at self.now s n ≡ no_flow }
+    {
+        match &self.timelines {
+            None => true,
+            Some(timelines) => sends_nothing(self.rule, timelines.least(self.limits.weights), n),
         }
     }
 }
 
-// The timeline of a connector of these cells that carries by this rule with these weights.
+// The timeline of a connector of these cells that carries by this rule with these weights, at step 0.
 fn made_of(
     alloc: Global,
     net: &Net,
@@ -154,8 +182,28 @@ fn made_of(
     requires step { weights.step ≡ 0 }
     ensures { IfOk result (IsConnectorOf net.now rule cells weights) }
 {
+    let mut timelines = LimitTimelines::new(alloc, &net.plan, rule, cells, weights)?;
+    let now = timelines.move_to(0, WeightPair::new(1, 1));
+    let [_, second, third] = cells;
+    let (second_space, third_space) = (space_of(net, second), space_of(net, third));
+    if now.until >= net.steps {
+        return Ok(ConnectorTimeline {
+            rule,
+            step: 0,
+            limits: now.value,
+            until: u64::MAX,
+            second_space,
+            third_space,
+            timelines: None,
+        });
+    }
     Ok(ConnectorTimeline {
-        limited: LimitedTimeline::new(alloc, net, rule, cells, weights)?,
-        slowing: slowing_of(alloc, net, rule, cells)?,
+        rule,
+        step: 0,
+        limits: now.value,
+        until: now.until,
+        second_space,
+        third_space,
+        timelines: Some(Box::new(alloc, timelines)?),
     })
 }

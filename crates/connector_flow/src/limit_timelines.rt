@@ -7,8 +7,8 @@ use crate::limits::Limits;
 use crate::rule::Rule;
 use crate::weight_pair::WeightPair;
 use no_memory::NoMemory;
-use signal_plan::{MOST_STEPS, Plan};
 use std::alloc::Global;
+use step_plan::{MOST_STEPS, Plan};
 use timelines::{CellTimeline, Now, Timeline};
 
 /// What bounds the flow of a connector, followed forward from step 0.

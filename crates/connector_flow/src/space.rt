@@ -1,8 +1,9 @@
-ghost use Rattle.std.specs.Prelude.{◌≡◌, ◌≤◌, ◌<◌, ◌+◌, ◌*◌, ◌/◌, ◌^◌};
+ghost use Rattle.std.specs.Prelude.{◌≤◌, ◌<◌, ◌≡◌, ◌+◌, ◌^◌};
 ghost use Rattle.std.specs.Option.{ForSome};
-ghost use Rattle.ordinary_link.specs.Flows.{IsRoomHolding};
+ghost use Rattle.ordinary_link.specs.Rooms.{IsRoomHolding};
 ghost use Rattle.connector_flow.specs.Space.{IsSpaceOf, let_in};
 
+use crate::ratio::Ratio;
 use ordinary_link::{MOST_PARTS, Room};
 
 /// A cell without a room lets in all that comes as long as it holds no more than this in all, in parts.
@@ -13,7 +14,7 @@ pub(crate) const BOUNDLESS: u64 = 4_611_686_018_427_387_904;
 pub struct Space {
     /// The most parts that the cell holds, and one more where its ratio is 1.
     pub storage: u64,
-    /// The ratio times 2^64, rounded up or one more; `u64::MAX` where the ratio is 1 or there is no room.
+    /// The factor of its ratio, of 2^64; `u64::MAX` where the ratio is 1 or there is no room.
     pub factor: u64,
 }
 
@@ -47,7 +48,7 @@ impl Space {
         } else {
             Space {
                 storage: room.most,
-                factor: room_factor(room.num, room.den),
+                factor: Ratio::new(room.num, room.den).whole_factor(),
             }
         }
     }
@@ -63,13 +64,4 @@ impl Space {
         let wide = u128::from(self.storage - n) * u128::from(self.factor);
         (wide >> 64) as u64
     }
-}
-
-// The factor of a ratio below 1: `floor(A * 2^64 / B) + 1`.
-fn room_factor(num: u32, den: u32) -> u64
-    requires positive { 1 ≤ num }
-    requires below { num < den }
-    ensures { result ≡ num * 2 ^ 64 / den + 1 }
-{
-    ((u128::from(num) << 64) / u128::from(den)) as u64 + 1
 }

@@ -2,31 +2,32 @@ ghost use Rattle.std.specs.Prelude.{◌≡◌, ◌≤◌, ◌<◌, ◌+◌, ◌*
 ghost use Rattle.merge_rule.specs.Merge.{first_share};
 ghost use Rattle.connector_flow.specs.Weights.{AreBoth};
 
+use crate::ratio::Ratio;
 use fixed_flow::share_floor;
 use std::marker::Model;
 
-/// The priorities of a merge or the turning shares of a diverge, 1 to 1,000 each, with a factor in place of the division by
-/// both together.
+/// The priorities of a merge or the turning shares of a diverge, 1 to 1,000 each.
 #[derive(Clone, Copy)]
 pub(crate) struct WeightPair {
     first: u32,
     second: u32,
-    factor: u64,
+    // One to both together.
+    share: Ratio,
 }
 
 impl Model for WeightPair {
-    ghost use Rattle.std.specs.Prelude.{ℕ};
-    ghost use Rattle.connector_flow.specs.Factors.{HaveFactor, weight_factor};
+    ghost use Rattle.std.specs.Prelude.{ℕ, ◌+◌};
+    ghost use Rattle.connector_flow.specs.Weights.{HaveShare};
 
     ghost Value = { ℕ × ℕ };
 
     ghost view = { λ weights. (weights.first, weights.second) };
 
-    ghost inverse = { λ pair. record { first = pair.0; second = pair.1; factor = weight_factor pair } };
+    ghost inverse = { λ pair. record { first = pair.0; second = pair.1; share = (1, pair.0 + pair.1) } };
 
-    ghost inverse_ok = { λ weights held i. record { first = weights.first; second = weights.second; factor = held.factor_is i } };
+    ghost inverse_ok = { λ weights held i. record { first = weights.first; second = weights.second; share = held.share_is i } };
 
-    ghost invariant = { λ weights. HaveFactor (weights.first, weights.second) weights.factor };
+    ghost invariant = { λ weights. HaveShare (weights.first, weights.second) weights.share };
 }
 
 impl WeightPair {
@@ -38,11 +39,11 @@ impl WeightPair {
         WeightPair {
             first,
             second,
-            factor: u64::MAX / u64::from(first + second),
+            share: Ratio::new(1, first + second),
         }
     }
 
-    /// The pair of these two, with the factor that is there where they are the same.
+    /// The pair of these two, with the share that is there where they are the same.
     pub(crate) fn renewed(self, now: (u32, u32)) -> WeightPair
         requires { AreBoth now }
         ensures { result ≡ now }
@@ -76,21 +77,7 @@ impl WeightPair {
         ensures quotient { result ≡ amount / (self.0 + self.1) }
         ensures within { result * (self.0 + self.1) ≤ amount }
     {
-        if amount < 1 << 53 {
-            return self.whole_by_factor(amount);
-        }
-        amount / u64::from(self.first + self.second)
-    }
-
-    // The same of an amount for which the factor will do.
-    #[inline(always)]
-    fn whole_by_factor(self, amount: u64) -> u64
-        requires little { amount < 2 ^ 53 }
-        ensures quotient { result ≡ amount / (self.0 + self.1) }
-        ensures within { result * (self.0 + self.1) ≤ amount }
-    {
-        let wide = u128::from(amount + 1) * u128::from(self.factor);
-        (wide >> 64) as u64
+        self.share.part(amount)
     }
 
     /// The share of the first in an amount, rounded down.
@@ -100,8 +87,8 @@ impl WeightPair {
         ensures within { result ≤ amount }
     {
         let first = u64::from(self.first);
-        if amount < 1 << 43 {
-            return self.whole_by_factor(amount * first);
+        if amount < 1 << 42 {
+            return self.share.part_of_few(amount * first);
         }
         share_floor(amount, first, first + u64::from(self.second))
     }

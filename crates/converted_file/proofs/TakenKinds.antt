@@ -4,8 +4,8 @@ use Rattle.std.specs.Prelude.{Result, is_none, is_some, not}
 use Rattle.std.specs.List.{list_any}
 use Rattle.std.proofs.lemmas.List.Elements.{All-push}
 use Rattle.fixed_flow.specs.Limits.{most_parts, most_ratio}
-use Rattle.signal_plan.specs.Green.{signal_of}
-use Rattle.signal_plan.specs.Limits.{most_steps}
+use Rattle.step_plan.specs.Green.{signal_of}
+use Rattle.step_plan.specs.Limits.{most_steps}
 use Rattle.network_file.specs.Draft.{Draft}
 use Rattle.record_fields.specs.Fields.{field, whole_within, range_within, ratio, weights, amount_within}
 use Rattle.record_fields.specs.Regions.{region_in}

@@ -1,4 +1,4 @@
--- A file in the newest format that its records need, which says the same.
+-- A file written again, which says the same: in format 3 where that is its own, and else in format 2.
 use Rattle.std.specs.Prelude.{ℕ, List, [], ◌∷◌, ◌++◌, bytes_eq, codes, drop, if◌then◌else◌}
 use Rattle.std.specs.List.{flat_map}
 use Rattle.record_fields.specs.Fields.{field}

@@ -1,7 +1,7 @@
 ghost use Rattle.std.specs.Prelude.{◌≡◌, ◌≤◌, ◌++◌, IfErr, IfOk, codes, drop, if◌then◌else◌, length};
 ghost use Rattle.std.specs.List.{flat_map};
 ghost use Rattle.converted_file.specs.Converted.{converted, header_line, record_line};
-ghost use Rattle.record_fields.specs.FileRecords.{IsReading, records_left};
+ghost use Rattle.record_fields.specs.FileReading.{IsReading, records_left};
 ghost use Rattle.network_file.specs.Reading.{network_of};
 ghost use Rattle.no_memory.specs.Answers.{IsRefusal};
 ghost use Rattle.converted_file.specs.SameNetwork.{SaysTheSame};

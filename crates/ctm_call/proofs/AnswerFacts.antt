@@ -1,10 +1,10 @@
 -- The answer by its cases.
 use Rattle.std.proofs.Common.{◌≡◌, ℕ, ◌≤◌, true, List, Option, Some, None, Result, Ok, Err, IfOk, IfErr, refl, subst, sym, length}
 use Rattle.std.specs.Option.{option_or}
-use Rattle.std.specs.Prelude.{IsOk}
 use Rattle.std.proofs.lemmas.Bool.{le-ltb}
 use Rattle.command_words.specs.declared.request.Request.{Request}
-use Rattle.call_ending.specs.Refusing.{IsRefusalOf, Why}
+use Rattle.call_ending.specs.Refusing.{IsRefusalOf}
+use Rattle.call_ending.specs.Why.{Why}
 use Rattle.call_ending.specs.declared.refusal.Refusal.{Refusal}
 use Rattle.call_ending.specs.declared.refusal.Refusal.TheVariants as refusal
 use Rattle.ctm_call.specs.Telling.{IsAnswered, IsToldBy}
@@ -13,7 +13,8 @@ use Rattle.call_beginning.specs.Input.{IsInputOf, asks_source, most_input, why_l
 use Rattle.call_beginning.specs.Task.{task_of}
 use Rattle.call_beginning.specs.Words.{IsOfWords, words_refused}
 use Rattle.call_beginning.proofs.Inputs.{allowed, some_input_of}
-use Rattle.network_run.specs.Telling.{Telling, TellingOfShots}
+use Rattle.network_run.specs.Telling.{Telling}
+use Rattle.network_run.specs.ToldShots.{TellingOfShots, TellingOfWatchers}
 
 -- an input that isn't too long has no text only for a reason of its mode
 pub why-fits : (request : Request) (input : List ℕ) → length input ≤ most_input request.mode → why_none (Some request) input ≡ why_by request.mode (task_of request input)
@@ -42,15 +43,15 @@ refused_input asked request left told Rose is given =
     (given.0, given.1, early (why_long request.mode given.0) (why_by request.mode (task_of request given.0)) _ told given.2)
 
 -- a text of the mode is one of the answer
-pub answered_text : {A : Type 0} (held freed : Telling) (watched : TellingOfShots) (items : A → List ℕ) (asked : Option Request) (request : Request) (left : Option (List ℕ)) (input : List ℕ) →
+pub answered_text : {A : Type 0} (held freed : Telling) (watching : TellingOfWatchers) (watched : TellingOfShots) (items : A → List ℕ) (asked : Option Request) (request : Request) (left : Option (List ℕ)) (input : List ℕ) →
     asked ≡ Some request → IsInputOf (Some request) left input → length input ≤ most_input request.mode → (result : Result A Refusal) →
     IfOk result (λ text. (why_by request.mode (task_of request input) ≡ None) × IsTextBy request.mode (task_of request input) (items text)) →
-    (IsOk result → IsToldBy held freed watched request.mode (task_of request input)) →
-    IfOk result (λ text. (input : List ℕ) × IsInputOf asked left input × IsAnswered held freed watched asked input (items text))
-answered_text held freed watched items asked request left input is given fits (Ok text) answers told =
-    subst (λ asked. (input : List ℕ) × IsInputOf asked left input × IsAnswered held freed watched asked input (items text)) (sym is)
-    (input, given, ((rw (why-fits request input fits) answers.0, answers.1), told refl))
-answered_text held freed watched items asked request left input is given fits (Err refusal) answers told = tt
+    IfOk result (λ text. IsToldBy held freed watching watched request.mode (task_of request input) (items text)) →
+    IfOk result (λ text. (input : List ℕ) × IsInputOf asked left input × IsAnswered held freed watching watched asked input (items text))
+answered_text held freed watching watched items asked request left input is given fits (Ok text) answers told =
+    subst (λ asked. (input : List ℕ) × IsInputOf asked left input × IsAnswered held freed watching watched asked input (items text)) (sym is)
+    (input, given, ((rw (why-fits request input fits) answers.0, answers.1), told))
+answered_text held freed watching watched items asked request left input is given fits (Err refusal) answers told = tt
 
 -- a refusal of the mode is one of the answer
 pub answered_refusal : {A : Type 0} (asked : Option Request) (request : Request) (left : Option (List ℕ)) (input : List ℕ) (ReadFailed : Type 0) →

@@ -9,7 +9,7 @@ use Rattle.command_words.specs.declared.request.Request.{Request}
 use Rattle.network_file.specs.Network.{Network}
 use Rattle.network_file.specs.Reading.{network_of}
 use Rattle.network_file.specs.declared.fault.NetFault.{NetFault}
-use Rattle.call_ending.specs.Refusing.{Why}
+use Rattle.call_ending.specs.Why.{Why}
 use Rattle.call_beginning.specs.Input.{large_input, most_input}
 use Rattle.call_beginning.specs.Task.{task_of}
 use Rattle.run_modes.proofs.PlainRun.{run_refused-plain, run_text-plain}

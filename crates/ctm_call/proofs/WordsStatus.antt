@@ -1,5 +1,5 @@
 -- Status Words is the answer to words that are refused alone.
-use Rattle.std.proofs.Common.{◌≡◌, ◌⊎◌, ℕ, Bool, true, false, inl, inr, List, Option, Some, None, Result, Ok, Err, IfSome, refl, subst, ap, if◌then◌else◌, [], ◌∷◌, ◌+◌, length, nat_lt, arith}
+use Rattle.std.proofs.Common.{◌≡◌, ◌⊎◌, ℕ, Bool, true, false, inl, inr, List, Option, Some, None, Result, Ok, Err, IfSome, refl, sym, subst, ap, ◌∙◌, if◌then◌else◌, [], ◌∷◌, ◌+◌, length, nat_lt, arith}
 use Rattle.std.specs.Option.{option_or}
 use Rattle.std.specs.Prelude.{◌&&◌, nat_le}
 use Rattle.std.proofs.lemmas.Bool.{false≢true}
@@ -12,23 +12,26 @@ use Rattle.command_words.specs.declared.request.Request.{Request}
 use Rattle.saved_run.specs.Content.{Content}
 use Rattle.saved_run.specs.Loading.{cutting_in, start_in}
 use Rattle.saved_run.specs.Reading.{content_of}
-use Rattle.saved_run.proofs.Starting.{decide_start}
+use Rattle.saved_run.specs.Startable.{can_start}
 use Rattle.plan_choice.specs.Pieces.{candidates_in}
-use Rattle.call_ending.specs.Ending.{HasEnded, SinkUse}
-use Rattle.call_ending.specs.Refusing.{Why}
+use Rattle.call_ending.specs.Calls.{Call}
+use Rattle.call_ending.specs.Ending.{Answer, HasEnded}
+use Rattle.call_ending.specs.Why.{Why}
 use Rattle.call_ending.specs.Status.{status_number}
 use Rattle.call_ending.specs.declared.status.Status.{Status}
 use Rattle.call_ending.specs.declared.status.Status.TheVariants as status
-use Rattle.ctm_call.specs.Telling.{IsAnswered}
 use Rattle.ctm_call.specs.Answer.{why_by, why_none}
+use Rattle.ctm_call.specs.Ended.{HasAnswered, answer_for}
 use Rattle.workerless_modes.specs.ChooseMode.{choose_refused, plans_refused, why_of_candidate, why_of_candidates}
-use Rattle.call_beginning.specs.Input.{asks_source, large_input, most_input, why_long}
+use Rattle.call_beginning.specs.Input.{large_input, most_input, why_long}
 use Rattle.call_beginning.specs.NetworkInput.{why_of_network}
-use Rattle.saved_modes.specs.ResumeMode.{why_by_content, why_by_cutting, why_unstarted}
+use Rattle.saved_modes.specs.ResumeMode.{why_by_content, why_by_cutting}
 use Rattle.call_beginning.specs.Recording.{why_unrecorded}
 use Rattle.call_beginning.specs.Task.{Task, task_of}
+use Rattle.call_beginning.specs.Words.{requested}
 use Rattle.run_modes.specs.WatchMode.{why_unshown}
-use Rattle.network_run.specs.Telling.{Telling, TellingOfShots}
+use Rattle.network_run.specs.Telling.{Telling}
+use Rattle.network_run.specs.ToldShots.{TellingOfShots, TellingOfWatchers}
 
 -- a reason with another status
 abbrev IsOther : Why → Type 0
@@ -55,13 +58,13 @@ other-unrecorded net every = other-if _ _ (other status.TooLarge (λ e. omega (a
 other-unshown : (net : Network) (shots : ℕ) → IfSome (why_unshown net shots) IsOther
 other-unshown net shots = other-if _ _ (other status.TooLarge (λ e. omega (arith, e)))
 
-other-start : {P : Type 0} (can : Dec P) → IfSome (why_unstarted can) IsOther
-other-start (yes can) = tt
-other-start (no cannot) = other status.Saved (λ e. omega (arith, e))
+other-unless : (yes : Bool) (why : Why) → IsOther why → IfSome (if yes then None else Some why) IsOther
+other-unless true why is = tt
+other-unless false why is = is
 
 other-cutting : (content : Content) (net : Network) (cut : Option (List ℕ)) → IfSome (why_by_cutting content net cut) IsOther
 other-cutting content net None = other status.Saved (λ e. omega (arith, e))
-other-cutting content net (Some cut) = other-start (decide_start net cut (start_in content))
+other-cutting content net (Some cut) = other-unless (can_start net cut (start_in content)) _ (other status.Saved (λ e. omega (arith, e)))
 
 other-content : (content : Option Content) → IfSome (why_by_content content) IsOther
 other-content None = other status.Saved (λ e. omega (arith, e))
@@ -107,26 +110,37 @@ other-none request input =
     (other-if (nat_lt (most_input request.mode) (length input)) large_input (other status.TooLarge (λ e. omega (arith, e)))) (other-by request.mode (task_of request input))
 
 -- a call that ends so has words that are refused
-pub words-refused : (IsText : List ℕ → Type 0) (asked : Option Request) (input : List ℕ) (IsRead ReadFailed : Type 0) (told : Status) (out err : SinkUse) →
-    HasEnded IsText (why_none asked input) IsRead ReadFailed told out err → told ≡ status.Words → asked ≡ None
-words-refused IsText None input IsRead ReadFailed told out err ended is = refl
-words-refused IsText (Some request) input IsRead ReadFailed told out err ended is =
-    let by_words = subst (λ told. HasEnded IsText (why_none (Some request) input) IsRead ReadFailed told out err) is ended in
-    absurd (subst (λ why. IfSome why IsOther) by_words.1 (other-none request input) refl)
+refused-none : (asked : Option Request) (input : List ℕ) (why : Why) → why_none asked input ≡ Some why → why.status ≡ status.Words → asked ≡ None
+refused-none None input why is by = refl
+refused-none (Some request) input why is by = absurd (subst (λ some. IfSome some IsOther) is (other-none request input) by)
+
+pub words-refused : (held freed : Telling) (watching : TellingOfWatchers) (watched : TellingOfShots) (call : Call) (told : Status) → HasAnswered held freed watching watched call told → told ≡ status.Words → requested call.words ≡ None
+words-refused held freed watching watched call told answered is =
+    let refused = subst (λ told. HasEnded (answer_for held freed watching watched (requested call.words) answered.input) call told) is answered.ended in
+    refused-none (requested call.words) answered.input _ refused.why refl
+
+-- the status of an answer that is a refusal of words
+abbrev IsOfWords : Option Why → Type 0
+IsOfWords why = IfSome why (λ w. w.status ≡ status.Words)
+
+of-words : (answered : Status) (why : Option Why) (line : List ℕ) → IsOfWords why → why ≡ Some (record { status = answered; line = line }) → answered ≡ status.Words
+of-words answered why line of is = subst IsOfWords is of
 
 -- and with such words it ends so, unless memory was refused
-by-words : (held freed : Telling) (watched : TellingOfShots) (input : List ℕ) (IsRead Rose : Type 0) (told : Status) (out err : SinkUse) →
-    HasEnded (IsAnswered held freed watched None input) (why_none None input) IsRead ((asks_source None ≡ true) × Rose) told out err →
-    (told ≡ status.Words) ⊎ (told ≡ status.NoMemory)
-by-words held freed watched input IsRead Rose status.Done out err ended = absurd ended.1
-by-words held freed watched input IsRead Rose status.ReadFault out err ended = absurd (false≢true ended.0.0)
-by-words held freed watched input IsRead Rose status.WriteFault out err ended = absurd ended.1.is_text
-by-words held freed watched input IsRead Rose status.NoMemory out err ended = inr refl
-by-words held freed watched input IsRead Rose other out err ended = inl (subst (λ why. IfSome why (λ w. w.status ≡ status.Words)) ended.1 refl)
+by-words : (answer : Answer) (call : Call) (told : Status) → ((text : List ℕ) → answer.IsText text → ⊥) → answer.is_read ≡ false → IsOfWords answer.why →
+    HasEnded answer call told → (told ≡ status.Words) ⊎ (told ≡ status.NoMemory)
+by-words answer call status.Done none unread of ended = absurd (none ended.text ended.answers)
+by-words answer call status.Words none unread of ended = inl refl
+by-words answer call status.Network none unread of ended = inl (of-words _ answer.why ended.line of ended.why)
+by-words answer call status.TooLarge none unread of ended = inl (of-words _ answer.why ended.line of ended.why)
+by-words answer call status.ReadFault none unread of ended = absurd (false≢true (sym unread ∙ ended.is_read))
+by-words answer call status.WriteFault none unread of ended = absurd (none ended.part.text ended.part.answers)
+by-words answer call status.NoMemory none unread of ended = inr refl
+by-words answer call status.Saved none unread of ended = inl (of-words _ answer.why ended.line of ended.why)
+by-words answer call status.Plans none unread of ended = inl (of-words _ answer.why ended.line of ended.why)
 
-pub refused-words : (held freed : Telling) (watched : TellingOfShots) (asked : Option Request) (input : List ℕ) (IsRead Rose : Type 0) (told : Status) (out err : SinkUse) → asked ≡ None →
-    HasEnded (IsAnswered held freed watched asked input) (why_none asked input) IsRead ((asks_source asked ≡ true) × Rose) told out err →
+pub refused-words : (held freed : Telling) (watching : TellingOfWatchers) (watched : TellingOfShots) (call : Call) (told : Status) → HasAnswered held freed watching watched call told → requested call.words ≡ None →
     (told ≡ status.Words) ⊎ (told ≡ status.NoMemory)
-refused-words held freed watched asked input IsRead Rose told out err none ended =
-    by-words held freed watched input IsRead Rose told out err
-    (subst (λ asked. HasEnded (IsAnswered held freed watched asked input) (why_none asked input) IsRead ((asks_source asked ≡ true) × Rose) told out err) none ended)
+refused-words held freed watching watched call told answered none =
+    by-words (answer_for held freed watching watched None answered.input) call told (λ text is. is) refl refl
+    (subst (λ asked. HasEnded (answer_for held freed watching watched asked answered.input) call told) none answered.ended)

@@ -4,7 +4,7 @@ use Rattle.std.specs.Option.{option_or}
 use Rattle.command_words.specs.declared.mode.Mode.{Mode}
 use Rattle.command_words.specs.declared.mode.Mode.TheVariants.{Run, Watch, Sample, Save, Resume, Choose, Recut, Cut, Check, Convert}
 use Rattle.command_words.specs.declared.request.Request.{Request}
-use Rattle.call_ending.specs.Refusing.{Why}
+use Rattle.call_ending.specs.Why.{Why}
 use Rattle.workerless_modes.specs.CheckMode.{IsCheckText, check_refused}
 use Rattle.workerless_modes.specs.ChooseMode.{IsChooseText, choose_refused}
 use Rattle.workerless_modes.specs.ConvertMode.{IsConvertText, convert_refused}
@@ -45,7 +45,7 @@ IsTextBy Cut task text = IsCutText task text
 IsTextBy Check task text = IsCheckText task.input text
 IsTextBy Convert task text = IsConvertText task.input text
 
--- why there is no text where the words give this request, or none: the words are refused, the input is too long, or as the mode says
+-- why there is no text: the words are refused and there is no request, or else the input is too long, or else the mode has a reason
 abbrev pub why_none : Option Request → (input : List ℕ) → Option Why
 why_none None input = Some words_refused
 why_none (Some request) input = option_or (why_long request.mode input) (why_by request.mode (task_of request input))

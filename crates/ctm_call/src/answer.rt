@@ -1,4 +1,4 @@
-ghost use Rattle.std.specs.Prelude.{◌≡◌, ◌≤◌, ℕ, List, None, IfErr, IfOk, IsOk, OnOk, false, length, true};
+ghost use Rattle.std.specs.Prelude.{◌≡◌, ◌≤◌, ℕ, List, None, IfErr, IfOk, OnOk, false, length, true};
 ghost use Rattle.ctm_ports.specs.Count.{Rose};
 ghost use Rattle.ctm_ports.specs.ReadEnd.{LosesAtMost};
 ghost use Rattle.command_words.specs.Words.{IsInRange};
@@ -29,7 +29,7 @@ pub(crate) fn answer<R: Threads + Sync, S: Source, W: Observer>(
     observer: &W,
 ) -> Result<Vec<u8>, Refusal>
     ensures text { IfOk result (λ text. (input : List ℕ) × IsInputOf (requested words.now) (S.left source.old) input
-        × IsAnswered (W.told_held observer.now) (W.told_freed observer.now) (W.told_watched observer.now) (requested words.now) input text.items) }
+        × IsAnswered (W.told_held observer.now) (W.told_freed observer.now) (W.told_watching observer.now) (W.told_watched observer.now) (requested words.now) input text.items) }
     ensures refusal { IfErr result (λ refusal. (input : List ℕ) × IsInputOf (requested words.now) (S.left source.old) input
         × IsRefusalOf (why_none (requested words.now) input) ((asks_source (requested words.now) ≡ true) × Rose (S.faults source.old) (S.faults source.new)) refusal) }
     ensures unread { asks_source (requested words.now) ≡ false → source.new ≡ source.old }
@@ -58,7 +58,7 @@ fn text_of<R: Threads + Sync, W: Observer>(
     requires in_range { IsInRange request }
     requires few_bytes { length input.now ≤ most_input request.mode }
     ensures text { IfOk result (λ text. (why_by request.mode (task_of request input.now) ≡ None) × IsTextBy request.mode (task_of request input.now) text.items) }
-    ensures told { IsOk result → IsToldBy (W.told_held observer.now) (W.told_freed observer.now) (W.told_watched observer.now) request.mode (task_of request input.now) }
+    ensures told { IfOk result (λ text. IsToldBy (W.told_held observer.now) (W.told_freed observer.now) (W.told_watching observer.now) (W.told_watched observer.now) request.mode (task_of request input.now) text.items) }
     ensures refusal { IfErr result (IsRefusalOf (why_by request.mode (task_of request input.now)) ⊥) }
 {
     match request.mode {

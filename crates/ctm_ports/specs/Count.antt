@@ -5,6 +5,6 @@ use Rattle.std.specs.Prelude.{◌≡◌, ℕ, ◌+◌, ◌-◌, ◌^◌, ◌<◌
 abbrev pub raised : ℕ → ℕ
 raised count = min (count + 1) (2 ^ 64 - 1)
 
--- a count is greater at the end of a call than at its start, or stands at its end where a count stays
+-- a count is greater after a call than before it, or it is the greatest number of 64 bits, at which a count stays
 abbrev pub Rose : ℕ → ℕ → Type 0
 Rose old new = (old < new) ⊎ (new ≡ 2 ^ 64 - 1)

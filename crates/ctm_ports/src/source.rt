@@ -19,7 +19,7 @@ pub trait Source {
     // The bytes still to come, where the source tells them.
     ghost left: { Self → Option (List ℕ) };
 
-    // A count that never falls.
+    // How many reads failed, a count that never falls.
     ghost faults: { Self → ℕ };
 
     /// Reads the next bytes into the room. What stands past them in the room is unspecified.

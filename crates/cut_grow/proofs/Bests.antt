@@ -8,7 +8,8 @@ use Rattle.std.proofs.lemmas.List.Elements.{All-contains, All-cons, All-head, Al
 use Rattle.network_file.specs.Connectors.{cells_of}
 use Rattle.network_file.specs.Cutting.{IsCutting, greatest, has_no_gap}
 use Rattle.network_file.specs.Limits.{most_regions}
-use Rattle.network_file.specs.Network.{IsNetwork, Network}
+use Rattle.network_file.specs.Network.{Network}
+use Rattle.network_file.specs.Sound.{IsNetwork}
 use Rattle.network_file.specs.declared.connector.Connector.{Connector}
 use Rattle.region_cut.specs.Cuttings.{region_at}
 use Rattle.region_cut.proofs.Anys.{test_from_Contains}

@@ -5,7 +5,7 @@ use Rattle.std.proofs.lemmas.Bool.{and_from, and_left, and_right, cases_eq, case
 use Rattle.std.proofs.lemmas.List.{get_or-set_other, get_or-set_same}
 use Rattle.std.proofs.lemmas.List.Folds.{fold-map}
 use Rattle.std.proofs.lemmas.List.Sums.{count_by_more_no, count_by_more_yes}
-use Rattle.signal_plan.proofs.Sums.{count_by-cons, sum_by_splits}
+use Rattle.step_plan.proofs.Sums.{count_by-cons, sum_by_splits}
 use Rattle.cut_grow.specs.Counts.{begin_of}
 use Rattle.cut_grow.specs.Spans.{inside, is_inside}
 use Rattle.cut_grow.specs.declared.span.Span.{Span}

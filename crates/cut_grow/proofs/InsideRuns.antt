@@ -6,7 +6,7 @@ use Rattle.std.proofs.lemmas.Bool.{and_from, and_left, and_right, cases_eq, case
 use Rattle.std.proofs.lemmas.List.{take_more}
 use Rattle.std.proofs.lemmas.List.Elements.{All-contains, All-head, All-tail}
 use Rattle.std.proofs.lemmas.List.Folds.{list_any_none}
-use Rattle.signal_plan.proofs.Sums.{count_by-cons}
+use Rattle.step_plan.proofs.Sums.{count_by-cons}
 use Rattle.network_file.specs.Connectors.{cells_of}
 use Rattle.network_file.specs.declared.connector.Connector.{Connector}
 use Rattle.region_cut.specs.Cuttings.{region_at}

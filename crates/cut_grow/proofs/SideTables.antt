@@ -6,8 +6,9 @@ use Rattle.std.proofs.lemmas.Bool.{and_from, and_parts, cases_eq, cases_lt, eq-e
 use Rattle.std.proofs.lemmas.List.{get_or-set_other, get_or-set_same, get_or_default, length-set}
 use Rattle.std.proofs.lemmas.List.Elements.{Contains-get_or}
 use Rattle.std.proofs.lemmas.List.Folds.{list_any-append}
-use Rattle.signal_plan.proofs.Sums.{count_by-cons, count_by-some}
-use Rattle.network_file.specs.Connectors.{are_joined, connector_at, downstream_of, touches, upstream_of}
+use Rattle.step_plan.proofs.Sums.{count_by-cons, count_by-some}
+use Rattle.network_file.specs.Connectors.{are_joined, downstream_of, touches, upstream_of}
+use Rattle.network_file.specs.Numbered.{connector_at}
 use Rattle.network_file.specs.declared.connector.Connector.{Connector}
 use Rattle.network_file.specs.declared.connector.Connector.TheVariants.{Link}
 use Rattle.region_cut.proofs.Anys.{finds, found, same_tests}

@@ -20,11 +20,12 @@ pub record IsInRuns (net : Network) (k : ℕ) (order list : List ℕ) : Type 0 w
   pub even : All (λ size. (size ≡ length net.cells / k) ⊎ (size ≡ (length net.cells + k - 1) / k)) sizes
   pub runs : map (region_at list) order ≡ runs_from 0 sizes
 
--- a candidate in k regions: a cutting in such runs of the file order or of the walk
+-- a candidate in k regions: a cutting in k even runs of the file order or of the walk
 abbrev pub IsCandidate : Network → (k : ℕ) → (list : List ℕ) → Type 0
 IsCandidate net k list = IsInRuns net k (file_order net) list ⊎ IsInRuns net k (walk_to net (length net.cells)) list
 
--- a candidate that cuts no more connectors than any other
+-- a candidate that cuts no more connectors than any other; of several that cut as few it is one in the file order, if there is one
 pub record IsGrown (net : Network) (k : ℕ) (list : List ℕ) : Type 0 where
   pub candidate : IsCandidate net k list
   pub fewest : (other : List ℕ) → IsCandidate net k other → cuts list net ≤ cuts other net
+  pub in_file : (other : List ℕ) → IsInRuns net k (file_order net) other → cuts other net ≤ cuts list net → IsInRuns net k (file_order net) list

@@ -1,7 +1,8 @@
 -- Which cells stand on each side of a connector, and which cells a cell shares a connector with.
 use Rattle.std.specs.Prelude.{◌≡◌, ℕ, ◌<◌, Bool, true, false, not, eqb, ◌&&◌, ◌||◌, nat_lt, List, [], ◌∷◌, length, get_or, All}
 use Rattle.std.specs.List.{list_any}
-use Rattle.network_file.specs.Connectors.{are_joined, cells_of, connector_at, downstream_of, touches, upstream_of}
+use Rattle.network_file.specs.Connectors.{are_joined, cells_of, downstream_of, touches, upstream_of}
+use Rattle.network_file.specs.Numbered.{connector_at}
 use Rattle.network_file.specs.declared.connector.Connector.{Connector}
 use Rattle.network_file.specs.declared.connector.Connector.TheVariants.{Link, Merge, Diverge}
 use Rattle.cut_grow.specs.declared.side.Side.{Side}

@@ -13,7 +13,7 @@ use no_memory::NoMemory;
 use std::alloc::Global;
 
 /// The region of each cell of a grown cutting into `k` regions: in even runs of cells, in the order of the file or of the
-/// walk, whichever cuts fewer connectors; of the file where both cut as many. Time and memory grow with the number of
+/// walk, whichever cuts fewer connectors; of the file where both cut as many (`in_file` of `grown`). Time and memory grow with the number of
 /// cells and of connectors, and with the square of `k`.
 pub fn grow(alloc: Global, net: &Net, k: u32) -> Result<Vec<u32>, NoMemory>
     requires some { 1 ≤ k }

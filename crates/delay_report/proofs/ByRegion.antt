@@ -12,7 +12,8 @@ use Rattle.flow_model.specs.declared.row.Row.{Row}
 use Rattle.region_cut.specs.Chart.{ChartLists, list_at}
 use Rattle.region_cut.specs.Cuttings.{region_at}
 use Rattle.region_step.specs.Grid.{grid_row}
-use Rattle.region_step.specs.Recording.{note_of, notes_of, recorded}
+use Rattle.region_step.specs.Recording.{note_of, recorded}
+use Rattle.region_step.specs.Noting.{notes_of}
 use Rattle.region_step.specs.Region.{RegionValue}
 use Rattle.region_step.specs.Setup.{SetupValue}
 use Rattle.region_step.specs.Standing.{Stands}

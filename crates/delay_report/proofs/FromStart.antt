@@ -4,8 +4,10 @@ use Rattle.std.specs.Prelude.{slice_index}
 use Rattle.std.specs.List.{range_with_len}
 use Rattle.std.proofs.Common.{◌≡◌, ℕ, ◌≤◌, inl, inr, List, [], ◌++◌, length, append-nil, refl, sym, ap, ◌∙◌, arith}
 use Rattle.std.proofs.lemmas.Bool.{cases_eq}
+use Rattle.std.proofs.lemmas.List.{get_or-map, length-map}
 use Rattle.std.proofs.lemmas.List.FromFn.{fill_by_all, length-map-range_with_len}
-use Rattle.network_file.specs.Network.{IsNetwork, Network}
+use Rattle.network_file.specs.Network.{Network}
+use Rattle.network_file.specs.Sound.{IsNetwork}
 use Rattle.flow_model.specs.Rows.{empty_row}
 use Rattle.flow_model.specs.State.{row_at, state_at}
 use Rattle.flow_model.specs.declared.row.Row.{Row}
@@ -16,12 +18,15 @@ use Rattle.region_cut.proofs.Membership.{region_at-there}
 use Rattle.region_cut.proofs.Ranges.{Contains-range}
 use Rattle.region_step.specs.Grid.{grid_row}
 use Rattle.region_step.specs.Recording.{note_of, recorded}
+use Rattle.region_step.specs.Noting.{notes_of}
 use Rattle.region_step.specs.Setup.{SetupValue}
-use Rattle.region_step.specs.Start.{IsTrueStart, StartLists}
+use Rattle.region_step.specs.Start.{StartLists}
+use Rattle.region_step.specs.Starting.{IsTrueStart}
 use Rattle.region_step.specs.declared.note.Note.{Note}
 use Rattle.region_step.proofs.Grids.{are_the_recurrences}
 use Rattle.region_step.proofs.Lists.{map_same}
 use Rattle.delay_report.specs.FromStart.{IsRecordedFromZero, grid_note, last_rows, report_from}
+use Rattle.delay_report.specs.Notes.{all_notes}
 use Rattle.delay_report.specs.Report.{cell_lines, note_lines, report_line, report_of, report_with, total_line}
 use Rattle.delay_report.proofs.Lines.{note_lines-none, note_lines-same}
 use Rattle.delay_report.proofs.RecordedSteps.{recorded-none}
@@ -45,6 +50,20 @@ last_rows-true net cut start sound lawful true_start =
 -- what is noted of cell i at step t of the recurrences
 abbrev pub state_note : Network → (t i : ℕ) → Note
 state_note net t i = note_of (row_at (state_at net t) i)
+
+-- and what is noted of all cells is noted of its rows, where all regions start at step 0
+pub all_notes-true : (setup : SetupValue) → IsNetwork setup.net → AreLawful setup.net setup.chart.cut setup.start.steps → IsTrueStart setup.net setup.chart.cut setup.start →
+    ((q : ℕ) → slice_index setup.start.steps q ≡ 0) → (t : ℕ) → all_notes setup.net setup.chart.cut setup.start t ≡ notes_of (state_at setup.net t)
+unfolding all_notes
+all_notes-true setup sound lawful true_start at_zero t =
+    let net : Network = setup.net in
+    let cells : ℕ = length net.cells in
+    map_same (grid_note net setup.chart.cut setup.start t) (state_note net t) (range_with_len 0 cells)
+    (λ i has.
+    let begun : slice_index setup.start.steps (region_at setup.chart.cut i) ≤ t = omega (arith, at_zero (region_at setup.chart.cut i)) in
+    ap note_of (are_the_recurrences net setup.chart.cut setup.start sound lawful true_start t i (Contains-range cells i has) begun)) ∙
+    sym (fill_by_all (state_note net t) (notes_of (state_at net t)) cells (note_of empty_row) (length-map (state_at net t) note_of ∙ length-state_at net t)
+    (λ k within. get_or-map note_of (state_at net t) k empty_row (note_of empty_row) (omega (arith, within, length-state_at net t))))
 
 -- their recorded steps have the same lines
 notes-true : (setup : SetupValue) → IsNetwork setup.net → AreLawful setup.net setup.chart.cut setup.start.steps → IsTrueStart setup.net setup.chart.cut setup.start → IsRecordedFromZero setup →

@@ -7,7 +7,8 @@ use Rattle.region_cut.specs.Chart.{list_at}
 use Rattle.region_cut.specs.Cuttings.{region_count}
 use Rattle.region_step.specs.Grid.{grid_row}
 use Rattle.region_step.specs.Laws.{grid_rows, grid_state, grid_trail}
-use Rattle.region_step.specs.Recording.{notes_of, recorded}
+use Rattle.region_step.specs.Recording.{recorded}
+use Rattle.region_step.specs.Noting.{notes_of}
 use Rattle.region_step.specs.Region.{RegionValue}
 use Rattle.region_step.specs.Regions.{AreAtLast, HaveCome, RegionsValue}
 use Rattle.region_step.specs.Setup.{SetupValue}

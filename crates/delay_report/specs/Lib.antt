@@ -1,3 +1,4 @@
 pub mod Report
 pub mod FromStart
 pub mod Places
+pub mod Notes

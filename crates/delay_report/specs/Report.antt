@@ -51,6 +51,6 @@ unfoldable pub report_with : Network → (every : ℕ) → (note : ℕ → ℕ �
 report_with net every note rows =
     report_line net ++ note_lines net.cells note (recorded net.steps every 0 net.steps) ++ cell_lines net.cells rows ++ total_line net rows
 
--- the report of the plain recurrences, and of what is noted of them
+-- the report of the recurrences, speeds included, and of what is noted of them
 unfoldable pub report_of : Network → (every : ℕ) → List ℕ
 report_of net every = report_with net every (λ t i. note_of (row_at (state_at net t) i)) (state_at net net.steps)

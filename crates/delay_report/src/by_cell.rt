@@ -3,10 +3,12 @@ ghost use Rattle.flow_model.specs.State.{state_at};
 ghost use Rattle.region_cut.specs.Cuttings.{region_at};
 ghost use Rattle.region_step.specs.Grid.{grid_row};
 ghost use Rattle.region_step.specs.Recording.{recorded};
+ghost use Rattle.region_step.specs.Noting.{notes_of};
 ghost use Rattle.region_step.specs.Regions.{AreAtLast};
 ghost use Rattle.region_step.specs.Standing.{Stands};
-ghost use Rattle.region_step.specs.Start.{IsTrueStart};
+ghost use Rattle.region_step.specs.Starting.{IsTrueStart};
 ghost use Rattle.delay_report.specs.FromStart.{IsRecordedFromZero, grid_note, last_rows};
+ghost use Rattle.delay_report.specs.Notes.{all_notes, recorded_step};
 ghost use Rattle.delay_report.specs.Places.{IsCellPlace, note_at};
 ghost use Rattle.delay_report.specs.Report.{recorded_count};
 
@@ -96,6 +98,26 @@ impl<'r> ByCell<'r> {
             rows.push(self.row(i))?;
         }
         Ok(rows)
+    }
+
+    /// What was noted of all cells at the `k`-th recorded step.
+    pub(crate) fn notes(&self, alloc: Global, k: usize) -> Result<Vec<Note>, NoMemory>
+        requires from_zero { IsRecordedFromZero self.now.setup }
+        requires noted { k < recorded_count self.now.setup.net.steps self.now.setup.every }
+        ensures one_each { IfOk result (λ notes. length notes.items ≡ length self.now.setup.net.cells) }
+        ensures notes { IfOk result (λ notes. notes.items ≡ all_notes self.now.setup.net self.now.setup.chart.cut self.now.setup.start
+            (recorded_step self.now.setup.net.steps self.now.setup.every k)) }
+        ensures recurrences { IfOk result (λ notes. IsTrueStart self.now.setup.net self.now.setup.chart.cut self.now.setup.start →
+            notes.items ≡ notes_of (state_at self.now.setup.net (recorded_step self.now.setup.net.steps self.now.setup.every k))) }
+    {
+        let setup = self.regions.setup();
+        let _start = setup.start();
+        let net = setup.layout().net();
+        let mut notes = Vec::with_capacity(alloc, net.cells.len())?;
+        for i in 0..net.cells.len() as u32 {
+            notes.push(self.note(k, i))?;
+        }
+        Ok(notes)
     }
 }
 

@@ -1,7 +1,7 @@
 ghost use Rattle.std.specs.Prelude.{◌≡◌, ◌++◌, OnOk};
 ghost use Rattle.flow_model.specs.State.{state_at};
 ghost use Rattle.region_step.specs.Regions.{AreAtLast};
-ghost use Rattle.region_step.specs.Start.{IsTrueStart};
+ghost use Rattle.region_step.specs.Starting.{IsTrueStart};
 ghost use Rattle.delay_report.specs.FromStart.{last_rows};
 ghost use Rattle.delay_report.specs.Report.{total_line};
 

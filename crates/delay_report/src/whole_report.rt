@@ -1,7 +1,8 @@
 ghost use Rattle.std.specs.Prelude.{◌≡◌, ◌++◌, ◌+◌, IfOk, OnOk};
-ghost use Rattle.flow_ledger.specs.Books.{entered_of, initial_of, inside_of, left_of};
+ghost use Rattle.flow_ledger.specs.Books.{entered_of, inside_of, left_of};
+ghost use Rattle.flow_ledger.specs.Balances.{initial_of};
 ghost use Rattle.region_step.specs.Regions.{AreAtLast};
-ghost use Rattle.region_step.specs.Start.{IsTrueStart};
+ghost use Rattle.region_step.specs.Starting.{IsTrueStart};
 ghost use Rattle.delay_report.specs.FromStart.{IsRecordedFromZero, grid_note, last_rows, report_from};
 ghost use Rattle.delay_report.specs.Report.{report_line, report_of, report_with};
 

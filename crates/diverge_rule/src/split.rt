@@ -3,7 +3,7 @@ ghost use Rattle.std.specs.Prelude.{◌≡◌, ◌+◌, ◌*◌, ◌<◌, ◌^�
 /// How one step's flow divides over two branches, in parts.
 #[derive(Clone, Copy, Debug, PartialEq, Eq)]
 pub struct Split {
-    /// How many times both turning shares go whole.
+    /// How many times both turning shares pass: a count, no amount.
     pub parts: u64,
     /// What leaves the road.
     pub out: u64,

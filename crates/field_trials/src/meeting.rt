@@ -1,5 +1,5 @@
 use crate::pause::wait_for;
-use region_slots::{Moment, Observer, Sight};
+use region_slots::{Freed, Observer, Taken, Watched, Watching};
 use std::sync::atomic::{AtomicU64, Ordering};
 
 // Whether one of two that wait for each other has come, and whether it has met the other, however often it comes.
@@ -62,10 +62,12 @@ impl Observer for Meeting {
 
     ghost told_freed = { λ observer run region step. ⊤ };
 
-    ghost told_watched = { λ observer run seen done. ⊤ };
+    ghost told_watching = { λ observer run seen. ⊤ };
 
-    fn held(&self, moment: &Moment) {
-        let (own, other) = match (moment.region(), moment.step()) {
+    ghost told_watched = { λ observer run seen shot. ⊤ };
+
+    fn held(&self, taken: Taken) {
+        let (own, other) = match (taken.region(), taken.step()) {
             (0, 0) => (&self.first, &self.second),
             (2, 1) => (&self.second, &self.first),
             _ => return,
@@ -74,7 +76,9 @@ impl Observer for Meeting {
         own.waits_for(other);
     }
 
-    fn freed(&self, moment: &Moment) {}
+    fn freed(&self, freed: Freed) {}
 
-    fn watched(&self, sight: &Sight) {}
+    fn watching(&self, watching: Watching) {}
+
+    fn watched(&self, watched: Watched) {}
 }

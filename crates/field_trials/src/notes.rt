@@ -1,4 +1,4 @@
-use region_slots::{Moment, Observer, Sight};
+use region_slots::{Freed, Observer, Taken, Watched, Watching};
 use std::sync::atomic::{AtomicU64, Ordering};
 
 // An observer that notes what it is told, as the digits of two numbers: one digit for each region at which a turn began to work,
@@ -47,16 +47,20 @@ impl Observer for Notes {
     // And the step is one of its network.
     ghost told_freed = { λ observer run region step. (region < region_count run.cut) × (step ≤ run.net.steps) };
 
-    ghost told_watched = { λ observer run seen done. ⊤ };
+    ghost told_watching = { λ observer run seen. ⊤ };
 
-    fn held(&self, moment: &Moment) {
-        note(&self.worked, u64::from(moment.region()) + 1);
+    ghost told_watched = { λ observer run seen shot. ⊤ };
+
+    fn held(&self, taken: Taken) {
+        note(&self.worked, u64::from(taken.region()) + 1);
     }
 
-    fn freed(&self, moment: &Moment) {
-        note(&self.freed, u64::from(moment.region()) + 1);
-        note(&self.freed, moment.step());
+    fn freed(&self, freed: Freed) {
+        note(&self.freed, u64::from(freed.region()) + 1);
+        note(&self.freed, freed.step());
     }
 
-    fn watched(&self, sight: &Sight) {}
+    fn watching(&self, watching: Watching) {}
+
+    fn watched(&self, watched: Watched) {}
 }

@@ -1,5 +1,5 @@
 use crate::notes::Notes;
-use region_slots::{Moment, Observer, Sight};
+use region_slots::{Freed, Observer, Taken, Watched, Watching};
 use std::sync::atomic::{AtomicU64, Ordering};
 
 // An observer at which a turn that holds a region waits for a while until another turn or a shot was tried. It notes what it is
@@ -50,19 +50,24 @@ impl Observer for Pause {
 
     ghost told_freed = { λ observer run region step. ⊤ };
 
-    ghost told_watched = { λ observer run seen done. ⊤ };
+    ghost told_watching = { λ observer run seen. ⊤ };
 
-    fn held(&self, moment: &Moment) {
-        self.notes.held(moment);
-        if moment.region() == self.region {
+    ghost told_watched = { λ observer run seen shot. ⊤ };
+
+    fn held(&self, taken: Taken) {
+        let region = taken.region();
+        self.notes.held(taken);
+        if region == self.region {
             self.held.store(1, Ordering::SeqCst);
             wait_for(&self.tried);
         }
     }
 
-    fn freed(&self, moment: &Moment) {
-        self.notes.freed(moment);
+    fn freed(&self, freed: Freed) {
+        self.notes.freed(freed);
     }
 
-    fn watched(&self, sight: &Sight) {}
+    fn watching(&self, watching: Watching) {}
+
+    fn watched(&self, watched: Watched) {}
 }

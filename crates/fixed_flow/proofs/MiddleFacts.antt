@@ -2,7 +2,8 @@
 use Rattle.std.proofs.Common.{◌≡◌, ◌⊎◌, inl, inr, refl, ◌∙◌, ℤ, true, false, cond, arith, int_lt}
 use Rattle.std.proofs.lemmas.Int.{ints, clamps}
 use Rattle.std.specs.Int.{int_min, int_max}
-use Rattle.fixed_flow.specs.Middle.{middle_of, IsBetween, IsOneOf}
+use Rattle.fixed_flow.specs.Middle.{middle_of}
+use Rattle.fixed_flow.specs.Between.{IsBetween, IsOneOf}
 
 int_min_picks : (x y : ℤ) → (int_min x y ≡ x) ⊎ (int_min x y ≡ y)
 int_min_picks x y = elim (int_lt y x) as (λ t. (cond t y x ≡ x) ⊎ (cond t y x ≡ y)) [ true ↦ inr refl | false ↦ inl refl ]

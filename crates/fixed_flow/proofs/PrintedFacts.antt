@@ -9,7 +9,8 @@ use Rattle.std.specs.Fmt.{decimal}
 use Rattle.std.specs.Int.{IsInRange}
 use Rattle.std.specs.List.{list_all, list_any, before_first, after_first}
 use Rattle.std.specs.Str.Parse.{AllDigits, digits_value}
-use Rattle.fixed_flow.specs.Printed.{amount_text, signed_amount_text}
+use Rattle.fixed_flow.specs.Printed.{amount_text}
+use Rattle.fixed_flow.specs.Signed.{signed_amount_text}
 use Rattle.fixed_flow.specs.Spelling.{amount_of, is_point, is_digits}
 use Rattle.fixed_flow.proofs.DigitFacts.{digit_value-at_digit}
 use Rattle.fixed_flow.proofs.PassFacts.{before_first-more, after_first-more}

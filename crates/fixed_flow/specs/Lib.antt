@@ -1,6 +1,9 @@
+pub mod Between
 pub mod Limits
 pub mod Middle
 pub mod Pass
 pub mod Printed
 pub mod Reading
+pub mod Sequence
+pub mod Signed
 pub mod Spelling

@@ -1,5 +1,6 @@
 ghost use Rattle.std.specs.Prelude.{◌≡◌};
-ghost use Rattle.fixed_flow.specs.Middle.{middle_of, IsBetween, IsOneOf};
+ghost use Rattle.fixed_flow.specs.Middle.{middle_of};
+ghost use Rattle.fixed_flow.specs.Between.{IsBetween, IsOneOf};
 
 /// The middle of three values.
 pub fn middle(a: i128, b: i128, c: i128) -> i128

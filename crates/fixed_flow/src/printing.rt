@@ -1,5 +1,6 @@
 ghost use Rattle.std.specs.Prelude.{◌≡◌, ◌+◌, ◌/◌, ◌%◌, ◌≤◌, ◌∷◌, ◌++◌, length, map};
-ghost use Rattle.fixed_flow.specs.Printed.{amount_text, signed_amount_text};
+ghost use Rattle.fixed_flow.specs.Printed.{amount_text};
+ghost use Rattle.fixed_flow.specs.Signed.{signed_amount_text};
 
 use crate::amount::PARTS_PER_VEHICLE;
 use crate::text::Text48;

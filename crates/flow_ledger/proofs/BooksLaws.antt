@@ -8,10 +8,11 @@ use Rattle.std.proofs.lemmas.List.Elements.{All-from_get_or}
 use Rattle.std.proofs.lemmas.List.FromFn.{fill_by_all}
 use Rattle.std.proofs.lemmas.List.Sums.{sum-map, sum_by-cons}
 use Rattle.std.proofs.lemmas.Option.{get_or_from_slice_get, slice_get-map}
-use Rattle.signal_plan.proofs.Sums.{sum_by-same, sum_by_splits}
+use Rattle.step_plan.proofs.Sums.{sum_by-same, sum_by_splits}
 use Rattle.network_file.specs.Cells.{is_exit_at, is_gate_at}
 use Rattle.network_file.specs.Connectors.{downstream_of, upstream_of}
-use Rattle.network_file.specs.Network.{IsNetwork, IsSoundConnector, Network}
+use Rattle.network_file.specs.Network.{Network}
+use Rattle.network_file.specs.Sound.{IsNetwork, IsSoundConnector}
 use Rattle.network_file.specs.declared.cell.Cell.{Cell}
 use Rattle.network_file.specs.declared.connector.Connector.{Connector}
 use Rattle.network_file.specs.declared.connector.Connector.TheVariants.{Link}
@@ -19,9 +20,10 @@ use Rattle.flow_model.specs.Bounds.{first_at}
 use Rattle.flow_model.specs.State.{occupancy, row_at, state_at}
 use Rattle.flow_model.specs.declared.row.Row.{Row}
 use Rattle.flow_model.proofs.CellKinds.{cell_at}
-use Rattle.flow_ledger.specs.Books.{books_of, entered_of, flights_of, initial_of, inside_of, left_of}
+use Rattle.flow_ledger.specs.Books.{entered_of, inside_of, left_of, come_of}
+use Rattle.flow_ledger.specs.Balances.{books_of, flights_of, initial_of}
 use Rattle.flow_ledger.specs.BooksLaw.{BooksAtOneStep, BooksLaw}
-use Rattle.flow_ledger.specs.Flight.{come_of, flight_by, gone_of}
+use Rattle.flow_ledger.specs.Flight.{flight_by, gone_of}
 use Rattle.flow_ledger.specs.UnevenSteps.{StandAt}
 use Rattle.flow_ledger.proofs.CellBooks.{brought, cell-balance, none-brought, none-gone}
 use Rattle.flow_ledger.proofs.CellSums.{sum_where-parts}

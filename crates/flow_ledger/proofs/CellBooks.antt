@@ -5,13 +5,15 @@ use Rattle.std.proofs.Common.{◌≡◌, inl, inr, ℕ, Bool, false, true, ◌+�
 use Rattle.std.proofs.lemmas.Bool.{cases_Bool}
 use Rattle.network_file.specs.Cells.{is_exit_at, is_gate_at}
 use Rattle.network_file.specs.Connectors.{leads_into, leads_out_of}
-use Rattle.network_file.specs.Network.{IsNetwork, IsSoundCell, Network}
+use Rattle.network_file.specs.Network.{Network}
+use Rattle.network_file.specs.Sound.{IsNetwork, IsSoundCell}
 use Rattle.flow_model.specs.Bounds.{IsRowInBounds, first_at}
 use Rattle.flow_model.specs.State.{occupancy, row_at}
 use Rattle.flow_model.specs.declared.row.Row.{Row}
 use Rattle.flow_model.proofs.CellKinds.{All-at, cell_at, exit_at-no_gate, first-none}
 use Rattle.flow_model.proofs.States.{state_at-in_bounds}
-use Rattle.flow_ledger.specs.Flight.{come_of, gone_of}
+use Rattle.flow_ledger.specs.Flight.{gone_of}
+use Rattle.flow_ledger.specs.Books.{come_of}
 use Rattle.flow_ledger.specs.UnevenSteps.{StandAt}
 use Rattle.flow_ledger.proofs.StateRows.{come-none, gone-none}
 

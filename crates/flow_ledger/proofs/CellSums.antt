@@ -3,7 +3,7 @@ use Rattle.std.specs.Prelude.{sum_by, if◌then◌else◌}
 use Rattle.std.specs.List.{range_with_len}
 use Rattle.std.proofs.Common.{◌≡◌, ℕ, Bool, ◌+◌, [], arith, ap}
 use Rattle.std.proofs.lemmas.List.Sums.{sum_by-cons}
-use Rattle.signal_plan.proofs.Sums.{sum_by-filter, sum_by_range_split}
+use Rattle.step_plan.proofs.Sums.{sum_by-filter, sum_by_range_split}
 use Rattle.flow_ledger.specs.Books.{sum_where}
 
 -- by a part of each cell, which is 0 where the cell doesn't pass

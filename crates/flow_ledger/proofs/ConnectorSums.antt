@@ -6,7 +6,7 @@ use Rattle.std.proofs.lemmas.Bool.{cases_Bool, cases_eq, eq-eqb, ne_eqb}
 use Rattle.std.proofs.lemmas.List.Elements.{All-head, All-tail}
 use Rattle.std.proofs.lemmas.List.FromFn.{get_or-range_with_len, length-range_with_len}
 use Rattle.std.proofs.lemmas.List.Sums.{sum_by-cons}
-use Rattle.signal_plan.proofs.Sums.{count_by-cons, sum_by-same, sum_by-swap, sum_by-zero, sum_by_range_one, sum_by_splits}
+use Rattle.step_plan.proofs.Sums.{count_by-cons, sum_by-same, sum_by-swap, sum_by-zero, sum_by_range_one, sum_by_splits}
 use Rattle.flow_model.proofs.Connectors.{absent}
 
 -- the numbers below n are below n

@@ -1,14 +1,17 @@
 -- At one step, what has gone out of the cells upstream of a connector is what has come into those downstream.
 use Rattle.std.specs.Prelude.{All, sum_by}
 use Rattle.std.proofs.Common.{◌≡◌, ℕ, zero, suc, add-one, ◌+◌, ◌<◌, List, length, arith, refl, ◌∙◌}
-use Rattle.signal_plan.proofs.Sums.{sum_by-same, sum_by-zero, sum_by_splits}
-use Rattle.network_file.specs.Connectors.{connector_at, downstream_of, upstream_of}
-use Rattle.network_file.specs.Network.{IsNetwork, IsSoundConnector, Network}
+use Rattle.step_plan.proofs.Sums.{sum_by-same, sum_by-zero, sum_by_splits}
+use Rattle.network_file.specs.Connectors.{downstream_of, upstream_of}
+use Rattle.network_file.specs.Numbered.{connector_at}
+use Rattle.network_file.specs.Network.{Network}
+use Rattle.network_file.specs.Sound.{IsNetwork, IsSoundConnector}
 use Rattle.network_file.specs.declared.connector.Connector.{Connector}
 use Rattle.network_file.proofs.NetworkFacts.{connector_at-sound}
 use Rattle.flow_model.specs.State.{occupancy, state_at}
 use Rattle.flow_model.proofs.CellFlows.{connector-conserves}
-use Rattle.flow_ledger.specs.Flight.{come_of, gone_of}
+use Rattle.flow_ledger.specs.Flight.{gone_of}
+use Rattle.flow_ledger.specs.Books.{come_of}
 use Rattle.flow_ledger.specs.FlightLaw.{enters, leaves}
 use Rattle.flow_ledger.proofs.StateRows.{come-next, come-zero, gone-next, gone-zero}
 

@@ -5,14 +5,17 @@ use Rattle.std.proofs.lemmas.Bool.{eq-eqb, ne_eqb}
 use Rattle.std.proofs.lemmas.Int.{ints}
 use Rattle.std.proofs.lemmas.List.{get_or-append-add, get_or_append_left, length-append}
 use Rattle.std.proofs.lemmas.List.Elements.{All-weaker}
-use Rattle.signal_plan.proofs.Sums.{sum_by-filter, sum_by-same, sum_by-zero, sum_by_splits}
-use Rattle.network_file.specs.Connectors.{cells_of, connector_at, downstream_of, upstream_of}
-use Rattle.network_file.specs.Network.{IsNetwork, Network}
+use Rattle.step_plan.proofs.Sums.{sum_by-filter, sum_by-same, sum_by-zero, sum_by_splits}
+use Rattle.network_file.specs.Connectors.{cells_of, downstream_of, upstream_of}
+use Rattle.network_file.specs.Numbered.{connector_at}
+use Rattle.network_file.specs.Network.{Network}
+use Rattle.network_file.specs.Sound.{IsNetwork}
 use Rattle.network_file.specs.declared.connector.Connector.{Connector}
 use Rattle.network_file.proofs.NetworkFacts.{connector_at-sound}
 use Rattle.flow_model.specs.State.{state_at}
 use Rattle.flow_model.specs.declared.row.Row.{Row}
-use Rattle.flow_ledger.specs.Flight.{come_of, flight_by, flight_of, gone_of}
+use Rattle.flow_ledger.specs.Flight.{flight_by, flight_of, gone_of}
+use Rattle.flow_ledger.specs.Books.{come_of}
 use Rattle.flow_ledger.specs.FlightLaw.{FlightAtOneStep, FlightLaw, IsClose, ahead, enters, leaves}
 use Rattle.flow_ledger.specs.UnevenSteps.{StandAt}
 use Rattle.flow_ledger.proofs.EvenFlights.{AreThere, downstream-there, even, upstream-there}

@@ -5,8 +5,10 @@ use Rattle.std.proofs.lemmas.Bool.{eq-eqb, ne_eqb}
 use Rattle.std.proofs.lemmas.Int.{ints}
 use Rattle.std.proofs.lemmas.List.Elements.{All-cons, All-nil}
 use Rattle.network_file.specs.Cells.{is_gate_at}
-use Rattle.network_file.specs.Connectors.{connector_at, leads_into, leads_out_of}
-use Rattle.network_file.specs.Network.{IsNetwork, IsSoundConnector, Network}
+use Rattle.network_file.specs.Connectors.{leads_into, leads_out_of}
+use Rattle.network_file.specs.Numbered.{connector_at}
+use Rattle.network_file.specs.Network.{Network}
+use Rattle.network_file.specs.Sound.{IsNetwork, IsSoundConnector}
 use Rattle.network_file.specs.declared.connector.Connector.{Connector}
 use Rattle.network_file.specs.declared.connector.Connector.TheVariants.{Link}
 use Rattle.network_file.proofs.NetworkFacts.{connector_at-sound}

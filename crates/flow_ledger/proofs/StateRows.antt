@@ -10,7 +10,8 @@ use Rattle.flow_model.specs.declared.row.Row.{Row}
 use Rattle.flow_model.proofs.CellFlows.{inflow-none, outflow-none}
 use Rattle.flow_model.proofs.CellKinds.{cell_at}
 use Rattle.flow_model.proofs.States.{row_at-state_at-next, row_at-state_at-zero}
-use Rattle.flow_ledger.specs.Flight.{come_of, gone_of}
+use Rattle.flow_ledger.specs.Flight.{gone_of}
+use Rattle.flow_ledger.specs.Books.{come_of}
 use Rattle.flow_ledger.specs.FlightLaw.{enters, leaves}
 
 -- at step 0 nothing has moved

@@ -1,3 +1,4 @@
+pub mod Balances
 pub mod Books
 pub mod BooksLaw
 pub mod Flight

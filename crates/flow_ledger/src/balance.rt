@@ -1,5 +1,5 @@
 ghost use Rattle.std.specs.Prelude.{◌≡◌, length};
-ghost use Rattle.flow_ledger.specs.Books.{books_of};
+ghost use Rattle.flow_ledger.specs.Balances.{books_of};
 ghost use Rattle.flow_ledger.specs.BooksLaw.{BooksAtOneStep, BooksLaw};
 
 use crate::cell_sums::CellSums;
@@ -9,7 +9,7 @@ use flow_model::Row;
 use network_file::Net;
 
 /// The books of a network by the rows of its cells.
-#[tactic(auto, unfolding(crate::specs::Books::books_of))]
+#[tactic(auto, unfolding(crate::specs::Balances::books_of))]
 pub fn books(net: &Net, rows: &[Row]) -> Books
     requires one_each { length rows.now ≡ length net.now.cells }
     ensures books { result ≡ books_of net.now rows.now }

@@ -1,8 +1,7 @@
 ghost use Rattle.std.specs.Prelude.{◌≡◌, ◌<◌, ◌^◌, length, not, if◌then◌else◌};
 ghost use Rattle.network_file.specs.Cells.{is_exit_at, is_gate_at};
 ghost use Rattle.flow_model.specs.State.{occupancy};
-ghost use Rattle.flow_ledger.specs.Books.{entered_of, inside_of, left_of};
-ghost use Rattle.flow_ledger.specs.Flight.{come_of};
+ghost use Rattle.flow_ledger.specs.Books.{entered_of, inside_of, left_of, come_of};
 
 use flow_model::Row;
 use network_file::{Kind, Net};

@@ -1,7 +1,8 @@
 ghost use Rattle.std.specs.Prelude.{◌≡◌, ◌<◌, ◌^◌, ◌≤ℤ◌, length, neg_ℤ, pos};
-ghost use Rattle.network_file.specs.Connectors.{connector_at};
-ghost use Rattle.network_file.specs.Network.{IsSoundConnector};
-ghost use Rattle.flow_ledger.specs.Flight.{come_of, flight_by, flight_of, gone_of};
+ghost use Rattle.network_file.specs.Numbered.{connector_at};
+ghost use Rattle.network_file.specs.Sound.{IsSoundConnector};
+ghost use Rattle.flow_ledger.specs.Flight.{flight_by, flight_of, gone_of};
+ghost use Rattle.flow_ledger.specs.Books.{come_of};
 ghost use Rattle.flow_ledger.specs.FlightLaw.{FlightAtOneStep, FlightLaw, LinkFlightLaw};
 
 use flow_model::Row;

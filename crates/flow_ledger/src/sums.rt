@@ -1,5 +1,5 @@
 ghost use Rattle.std.specs.Prelude.{◌≡◌, ◌<◌, ◌^◌, length};
-ghost use Rattle.flow_ledger.specs.Books.{flights_of, initial_of};
+ghost use Rattle.flow_ledger.specs.Balances.{flights_of, initial_of};
 
 use crate::connector_flight::flight_by;
 use flow_model::Row;

@@ -2,11 +2,12 @@
 use Rattle.std.proofs.Common.{◌≡◌, inl, inr, ℕ, ◌+◌, ◌*◌, ◌<◌, ◌≤◌, true, false, length, arith}
 use Rattle.std.proofs.lemmas.Bool.{cases_Bool}
 use Rattle.fixed_flow.specs.Limits.{most_parts}
-use Rattle.signal_plan.specs.Demand.{demand_at}
-use Rattle.signal_plan.specs.Limits.{most_steps}
-use Rattle.signal_plan.proofs.Laws.{demand_from_more}
+use Rattle.step_plan.specs.Demand.{demand_at}
+use Rattle.step_plan.specs.Limits.{most_steps}
+use Rattle.step_plan.proofs.Laws.{demand_from_more}
 use Rattle.network_file.specs.Cells.{is_gate_at, is_exit_at, is_road_at}
-use Rattle.network_file.specs.Network.{Network, IsNetwork, IsSoundCell, IsSoundKind}
+use Rattle.network_file.specs.Network.{Network}
+use Rattle.network_file.specs.Sound.{IsNetwork, IsSoundCell, IsSoundKind}
 use Rattle.network_file.specs.Limits.{most_capacity, most_room}
 use Rattle.network_file.specs.declared.cell.Kind.{Kind}
 use Rattle.network_file.specs.declared.cell.Kind.TheVariants.{Road, Gate, Exit}

@@ -3,9 +3,11 @@ use Rattle.std.specs.Prelude.{map, if◌then◌else◌, ◌==◌}
 use Rattle.std.proofs.Common.{◌≡◌, ℕ, zero, suc, ◌+◌, ◌<◌, ◌≤◌, true, List, [], ◌∷◌, length, get_or, take, set, arith, refl, sym, ap, subst, ◌∙◌}
 use Rattle.std.proofs.lemmas.Bool.{eq-eqb}
 use Rattle.std.proofs.lemmas.List.{get_or-map, get_or_append_left, length-append, take_all}
-use Rattle.signal_plan.specs.Demand.{demand_at}
-use Rattle.network_file.specs.Connectors.{upstream_of, downstream_of, cells_of, connector_at}
-use Rattle.network_file.specs.Network.{Network, IsNetwork}
+use Rattle.step_plan.specs.Demand.{demand_at}
+use Rattle.network_file.specs.Connectors.{upstream_of, downstream_of, cells_of}
+use Rattle.network_file.specs.Numbered.{connector_at}
+use Rattle.network_file.specs.Network.{Network}
+use Rattle.network_file.specs.Sound.{IsNetwork}
 use Rattle.network_file.specs.declared.connector.Connector.{Connector}
 use Rattle.network_file.specs.declared.connector.Connector.TheVariants.{Link, Merge, Diverge}
 use Rattle.flow_model.specs.Bounds.{AreHeldInBounds, AreInBounds, IsHeldInBounds}

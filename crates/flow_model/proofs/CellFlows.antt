@@ -5,13 +5,15 @@ use Rattle.std.proofs.Common.{◌≡◌, inl, inr, ℕ, true, false, ◌+◌, �
 use Rattle.std.proofs.lemmas.Bool.{cases_Bool, eq-eqb, eqb-true}
 use Rattle.std.proofs.lemmas.List.Folds.{list_any_at}
 use Rattle.network_file.specs.Cells.{is_gate_at}
-use Rattle.network_file.specs.Connectors.{upstream_of, downstream_of, connector_at, leads_out_of, leads_into}
-use Rattle.network_file.specs.Network.{Network, IsNetwork}
+use Rattle.network_file.specs.Connectors.{upstream_of, downstream_of, leads_out_of, leads_into}
+use Rattle.network_file.specs.Numbered.{connector_at}
+use Rattle.network_file.specs.Network.{Network}
+use Rattle.network_file.specs.Sound.{IsNetwork}
 use Rattle.network_file.specs.declared.connector.Connector.{Connector}
 use Rattle.network_file.specs.declared.connector.Connector.TheVariants.{Link, Merge, Diverge}
 use Rattle.flow_model.specs.Flows.{flow_of, leaving, entering, outflow, inflow}
 use Rattle.flow_model.specs.declared.carried.Flow.{Flow}
-use Rattle.signal_plan.proofs.Sums.{sum_by-one, sum_by-no, sum_by-same}
+use Rattle.step_plan.proofs.Sums.{sum_by-one, sum_by-no, sum_by-same}
 use Rattle.network_file.proofs.NetworkFacts.{connector_at-sound}
 use Rattle.flow_model.proofs.Connectors.{leaving-other, entering-other, flow_of-conserved}
 

@@ -4,18 +4,21 @@ use Rattle.std.specs.Option.{option_map_or}
 use Rattle.std.proofs.lemmas.List.Elements.{All-weaker}
 use Rattle.ordinary_link.specs.Flows.{receiving_flow}
 use Rattle.ordinary_link.proofs.Bounds.{sending_flow-le-held, sending_flow-le-capacity, receiving_flow-le-capacity, add-receiving_flow-le-most}
-use Rattle.signal_plan.specs.Capacity.{capacity_at}
-use Rattle.signal_plan.specs.Green.{green_at}
-use Rattle.signal_plan.specs.Records.{LimitRecord, SpeedRecord, bare_cell, records_at}
-use Rattle.signal_plan.specs.Sound.{IsSoundSpeed}
-use Rattle.signal_plan.specs.Speeds.{IsSpeed, arriving, speed_at}
-use Rattle.signal_plan.specs.Limits.{most_steps}
-use Rattle.signal_plan.proofs.Laws as plan
+use Rattle.step_plan.specs.Capacity.{capacity_at}
+use Rattle.step_plan.specs.Green.{green_at}
+use Rattle.step_plan.specs.Records.{LimitRecord, SpeedRecord, records_at}
+use Rattle.step_plan.specs.Sound.{IsSoundSpeed}
+use Rattle.step_plan.specs.Speeds.{arriving, speed_at}
+use Rattle.step_plan.specs.SpeedBounds.{IsSpeed}
+use Rattle.step_plan.specs.Limits.{most_steps}
+use Rattle.step_plan.proofs.Laws as plan
 use Rattle.network_file.specs.Cells.{is_road, is_road_at}
-use Rattle.network_file.specs.Network.{Network, IsNetwork, IsPlannedCell, IsSoundCell, IsSoundKind}
+use Rattle.network_file.specs.Network.{Network}
+use Rattle.network_file.specs.Sound.{IsNetwork, IsSoundCell, IsSoundKind}
 use Rattle.network_file.specs.Limits.{most_capacity}
 use Rattle.network_file.specs.declared.cell.Kind.{Kind}
 use Rattle.network_file.specs.declared.cell.Kind.TheVariants.{Road, Gate, Exit}
+use Rattle.network_file.proofs.PlanFacts.{all-planned}
 use Rattle.flow_model.specs.Limits.{room_of, room_at, sending_at, receiving_at}
 use Rattle.flow_model.specs.Bounds.{room_parts_at}
 use Rattle.flow_model.proofs.CellKinds.{cell_at, All-at}
@@ -24,9 +27,9 @@ use Rattle.flow_model.proofs.CellKinds.{cell_at, All-at}
 pub speed_at-sound : (net : Network) (i t : ℕ) → IsNetwork net → IsSpeed (speed_at net.plan i t)
 speed_at-sound net i t sound =
     plan.speed_at-all IsSpeed net.plan i t plan.IsSpeed-own
-    (All-weaker (IsPlannedCell net.cells) (λ planned. All (λ speed. IsSpeed (speed.num, speed.den)) planned.records.speeds)
-    (λ planned fits. All-weaker (λ (speed : SpeedRecord). (is_road_at net.cells speed.cell ≡ true) × (speed.to ≤ most_steps) × IsSoundSpeed speed)
-    (λ speed. IsSpeed (speed.num, speed.den)) (λ speed within. within.2.bounds) planned.records.speeds fits.speeds) net.plan.cells sound.sound.planned.planned)
+    (all-planned (λ planned. All (λ speed. IsSpeed (speed.num, speed.den)) planned.records.speeds) net sound
+    (λ k planned fits. All-weaker (λ (speed : SpeedRecord). (is_road_at net.cells k ≡ true) × (speed.to ≤ most_steps) × IsSoundSpeed speed)
+    (λ speed. IsSpeed (speed.num, speed.den)) (λ speed within. within.2.bounds) planned.records.speeds fits.speeds))
 
 pub sending_at-le-held : (net : Network) (t i n : ℕ) → IsNetwork net → sending_at net t i n ≤ n
 unfolding sending_at
@@ -48,7 +51,7 @@ receiving_at-le-capacity net t i n = receiving_flow-le-capacity n (capacity_at n
 
 pub capacity_at-le : (net : Network) (t i : ℕ) → IsNetwork net → i < length net.cells → capacity_at net.plan i t ≤ most_capacity
 capacity_at-le net t i sound has =
-    let fits = sound.sound.planned.planned i (bare_cell 0) (omega (arith, sound.sound.planned.one_each)) in
+    let fits = sound.sound.planned.planned i has in
     plan.capacity_at-le net.plan i t most_capacity fits.capacity
     (All-weaker (λ (l : LimitRecord). (l.to ≤ most_steps) × (l.capacity ≤ most_capacity)) (λ l. l.capacity ≤ most_capacity) (λ l both. both.1)
     (records_at net.plan i).limits fits.limits)

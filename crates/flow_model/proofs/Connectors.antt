@@ -7,16 +7,18 @@ use Rattle.std.proofs.lemmas.List.Elements.{All-head, All-tail, All-weaker}
 use Rattle.std.proofs.lemmas.List.{get_or-map, get_or_append_left, get_or-append_right, length-append}
 use Rattle.merge_rule.proofs.MergeFacts.{merge_of-first_sends, merge_of-second_sends, merge_of-receives}
 use Rattle.diverge_rule.proofs.DivergeFacts.{diverge_of-conserved, diverge_of-sends, diverge_of-first_receives, diverge_of-second_receives}
-use Rattle.signal_plan.specs.Records.{TurnRecord}
-use Rattle.signal_plan.specs.Sound.{IsSoundTurn}
-use Rattle.signal_plan.specs.Turning.{shares_at}
-use Rattle.signal_plan.specs.Limits.{most_steps}
-use Rattle.signal_plan.proofs.Laws.{shares_at-all}
+use Rattle.step_plan.specs.Records.{TurnRecord}
+use Rattle.step_plan.specs.Sound.{IsSoundTurn}
+use Rattle.step_plan.specs.Turning.{shares_at}
+use Rattle.step_plan.specs.Limits.{most_steps}
+use Rattle.step_plan.proofs.Laws.{shares_at-all}
 use Rattle.network_file.specs.Connectors.{upstream_of, downstream_of, cells_of, leads_out_of, leads_into}
-use Rattle.network_file.specs.Network.{Network, IsNetwork, IsPlannedCell, IsSoundConnector}
+use Rattle.network_file.specs.Network.{Network}
+use Rattle.network_file.specs.Sound.{IsNetwork, IsSoundConnector}
 use Rattle.network_file.specs.declared.cell.Cell.{Cell}
 use Rattle.network_file.specs.declared.connector.Connector.{Connector}
 use Rattle.network_file.specs.declared.connector.Connector.TheVariants.{Link, Merge, Diverge}
+use Rattle.network_file.proofs.PlanFacts.{all-planned}
 use Rattle.flow_model.specs.Limits.{sending_at, receiving_at}
 use Rattle.flow_model.specs.FlowLaw.{SendsAtMost, ReceivesAtMost}
 use Rattle.flow_model.specs.Flows.{flow_between, flow_of, amount_beside, leaving, entering}
@@ -31,9 +33,9 @@ pub some_shares : (net : Network) (t up b1 b2 : ℕ) → IsNetwork net → 1 ≤
     (1 ≤ (shares_at net.plan up t (b1, b2)).0) × (1 ≤ (shares_at net.plan up t (b1, b2)).1)
 some_shares net t up b1 b2 sound first second =
     shares_at-all (λ shares. (1 ≤ shares.0) × (1 ≤ shares.1)) net.plan up t (b1, b2) (first, second)
-    (All-weaker (IsPlannedCell net.cells) (λ planned. All (λ turn. (1 ≤ turn.b1) × (1 ≤ turn.b2)) planned.records.turns)
-    (λ planned fits. All-weaker (λ (turn : TurnRecord). (turn.to ≤ most_steps) × IsSoundTurn turn) (λ turn. (1 ≤ turn.b1) × (1 ≤ turn.b2))
-    (λ turn within. (within.1.some_first, within.1.some_second)) planned.records.turns fits.turns) net.plan.cells sound.sound.planned.planned)
+    (all-planned (λ planned. All (λ turn. (1 ≤ turn.b1) × (1 ≤ turn.b2)) planned.records.turns) net sound
+    (λ k planned fits. All-weaker (λ (turn : TurnRecord). (turn.to ≤ most_steps) × IsSoundTurn turn) (λ turn. (1 ≤ turn.b1) × (1 ≤ turn.b2))
+    (λ turn within. (within.1.some_first, within.1.some_second)) planned.records.turns fits.turns))
 
 pub flow_between-conserved : (net : Network) (t : ℕ) (connector : Connector) (n : List ℕ) →
     let flow = flow_between net t connector n in

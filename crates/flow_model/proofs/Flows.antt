@@ -4,14 +4,15 @@ use Rattle.std.proofs.Common.{◌≡◌, inl, inr, ℕ, ◌*◌, ◌<◌, ◌≤
 use Rattle.std.proofs.lemmas.Bool.{cases_Bool}
 use Rattle.std.proofs.lemmas.List.Elements.{All-weaker}
 use Rattle.std.proofs.lemmas.List.Sums.{sum_by-le}
-use Rattle.signal_plan.specs.Demand.{demand_at}
+use Rattle.step_plan.specs.Demand.{demand_at}
 use Rattle.network_file.specs.Cells.{is_gate_at, is_exit_at}
 use Rattle.network_file.specs.Connectors.{leads_out_of, leads_into, upstream_of, downstream_of}
-use Rattle.network_file.specs.Network.{Network, IsNetwork, IsSoundConnector}
+use Rattle.network_file.specs.Network.{Network}
+use Rattle.network_file.specs.Sound.{IsNetwork, IsSoundConnector}
 use Rattle.network_file.specs.declared.connector.Connector.{Connector}
 use Rattle.flow_model.specs.Limits.{sending_at, receiving_at}
 use Rattle.flow_model.specs.Flows.{flow_of, leaving, entering, outflow, inflow}
-use Rattle.signal_plan.proofs.Sums.{sum_by-le-count_by}
+use Rattle.step_plan.proofs.Sums.{sum_by-le-count_by}
 use Rattle.flow_model.proofs.Connectors.{leaving-le, entering-le, leaving-other, at_listed}
 
 -- at most one connector leads out of a cell, and at most one into it

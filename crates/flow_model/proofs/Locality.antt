@@ -4,7 +4,7 @@ use Rattle.std.specs.List.{list_any}
 use Rattle.std.proofs.Common.{◌≡◌, inl, inr, ℕ, Bool, true, false, List, [], ◌∷◌, get_or, refl, sym, ap, ◌∙◌}
 use Rattle.std.proofs.lemmas.Bool.{cases_Bool, eq-eqb}
 use Rattle.std.proofs.lemmas.List.Folds.{list_any-append, list_any_at}
-use Rattle.signal_plan.specs.Demand.{demand_at}
+use Rattle.step_plan.specs.Demand.{demand_at}
 use Rattle.network_file.specs.Cells.{is_gate_at}
 use Rattle.network_file.specs.Connectors.{upstream_of, downstream_of, cells_of, leads_out_of, leads_into, touches, are_joined}
 use Rattle.network_file.specs.Network.{Network}
@@ -12,7 +12,7 @@ use Rattle.network_file.specs.declared.connector.Connector.{Connector}
 use Rattle.flow_model.specs.Flows.{flow_between, flow_of, leaving, entering, outflow, inflow}
 use Rattle.flow_model.specs.Rows.{next_row}
 use Rattle.flow_model.specs.declared.row.Row.{Row}
-use Rattle.signal_plan.proofs.Sums.{sum_by-same}
+use Rattle.step_plan.proofs.Sums.{sum_by-same}
 use Rattle.flow_model.proofs.Connectors.{leaving-other, entering-other}
 
 or_left : (a b : Bool) → a ≡ true → (a || b) ≡ true

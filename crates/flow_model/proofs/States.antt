@@ -6,9 +6,10 @@ use Rattle.std.proofs.lemmas.Option.{slice_get_within, get_or_from_slice_get, sl
 use Rattle.std.proofs.Common.{◌≡◌, ℕ, zero, suc, add-one, ◌+◌, ◌<◌, ◌≤◌, List, length, get_or, arith, refl, sym, ap, ◌∙◌}
 use Rattle.std.proofs.lemmas.List.{length-map}
 use Rattle.std.proofs.lemmas.List.Sums.{get_or-le-sum_by}
-use Rattle.signal_plan.specs.Total.{demand_from}
-use Rattle.signal_plan.proofs.Laws.{demand_from-le-total_demand}
-use Rattle.network_file.specs.Network.{Network, IsNetwork, IsSoundCell}
+use Rattle.step_plan.specs.Total.{demand_from}
+use Rattle.step_plan.proofs.Laws.{demand_from-le-total_demand}
+use Rattle.network_file.specs.Network.{Network}
+use Rattle.network_file.specs.Sound.{IsNetwork, IsSoundCell}
 use Rattle.fixed_flow.specs.Limits.{most_parts}
 use Rattle.network_file.specs.declared.cell.Cell.{Cell}
 use Rattle.flow_model.specs.Flows.{inflow, outflow}

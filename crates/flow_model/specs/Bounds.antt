@@ -1,7 +1,7 @@
 -- The bounds that rows keep at each step.
 use Rattle.std.specs.Prelude.{◌≡◌, ℕ, ◌+◌, ◌*◌, ◌<◌, ◌≤◌, List, true, false, length, slice_get, slice_index}
 use Rattle.std.specs.Option.{option_map_or}
-use Rattle.signal_plan.specs.Total.{demand_from}
+use Rattle.step_plan.specs.Total.{demand_from}
 use Rattle.network_file.specs.Cells.{is_exit_at, is_gate_at, is_road_at}
 use Rattle.network_file.specs.Network.{Network}
 use Rattle.network_file.specs.declared.cell.Cell.{Cell}

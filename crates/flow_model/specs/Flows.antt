@@ -2,8 +2,8 @@
 use Rattle.std.specs.Prelude.{ℕ, ◌==◌, ◌+◌, List, [], ◌∷◌, map, min, slice_index, sum_by, if◌then◌else◌}
 use Rattle.merge_rule.specs.Merge.{merge_of}
 use Rattle.diverge_rule.specs.Diverge.{diverge_of}
-use Rattle.signal_plan.specs.Demand.{demand_at}
-use Rattle.signal_plan.specs.Turning.{shares_at}
+use Rattle.step_plan.specs.Demand.{demand_at}
+use Rattle.step_plan.specs.Turning.{shares_at}
 use Rattle.network_file.specs.Cells.{is_gate_at}
 use Rattle.network_file.specs.Connectors.{cells_of, upstream_of, downstream_of}
 use Rattle.network_file.specs.Network.{Network}
@@ -39,11 +39,11 @@ flow_between net t (Diverge up down1 down2 b1 b2) held =
     diverge_carries (sending_at net t up (slice_index held 0)) (receiving_at net t down1 (slice_index held 1))
     (receiving_at net t down2 (slice_index held 2)) shares.0 shares.1
 
--- the same where cell i holds n i
+-- what a connector carries in step t where each cell i holds n i
 unfoldable pub flow_of : Network → (t : ℕ) → (n : ℕ → ℕ) → Connector → Flow
 flow_of net t n connector = flow_between net t connector (map n (cells_of connector))
 
--- the sum of the amounts beside cell i, in a list of amounts beside a list of cells
+-- the sum of the amounts of cell i, where each amount in the one list is that of the cell at its place in the other
 abbrev pub amount_beside : (i : ℕ) → (cells amounts : List ℕ) → ℕ
 amount_beside i [] amounts = 0
 amount_beside i (cell ∷ cells) [] = 0
@@ -53,7 +53,7 @@ amount_beside i (cell ∷ cells) (amount ∷ amounts) = (if i == cell then amoun
 abbrev pub leaving : (i : ℕ) → Connector → Flow → ℕ
 leaving i connector flow = amount_beside i (upstream_of connector) (flow.out1 ∷ flow.out2 ∷ [])
 
--- what enters cell i by it
+-- what enters cell i by a connector with this flow
 abbrev pub entering : (i : ℕ) → Connector → Flow → ℕ
 entering i connector flow = amount_beside i (downstream_of connector) (flow.in1 ∷ flow.in2 ∷ [])
 

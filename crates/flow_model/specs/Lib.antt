@@ -5,3 +5,4 @@ pub mod Limits
 pub mod Moves
 pub mod Rows
 pub mod State
+pub mod Stepping

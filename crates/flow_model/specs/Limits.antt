@@ -2,9 +2,9 @@
 use Rattle.std.specs.Prelude.{ℕ, List, Option, Some, None, option_and_then, slice_get}
 use Rattle.ordinary_link.specs.Flows.{receiving_flow, sending_flow}
 use Rattle.ordinary_link.specs.declared.space.Room.{Room}
-use Rattle.signal_plan.specs.Capacity.{capacity_at}
-use Rattle.signal_plan.specs.Green.{green_at}
-use Rattle.signal_plan.specs.Speeds.{arriving, speed_at}
+use Rattle.step_plan.specs.Capacity.{capacity_at}
+use Rattle.step_plan.specs.Green.{green_at}
+use Rattle.step_plan.specs.Speeds.{arriving, speed_at}
 use Rattle.network_file.specs.Network.{Network}
 use Rattle.network_file.specs.declared.cell.Cell.{Cell}
 use Rattle.network_file.specs.declared.cell.Kind.{Kind}
@@ -20,8 +20,8 @@ room_of Exit = None
 abbrev pub room_at : List Cell → ℕ → Option Room
 room_at cells i = option_and_then (λ cell. room_of cell.kind) (slice_get cells i)
 
--- S(i,t,n): what cell i can send at step t where it holds n parts: of those that reach its end at the speed of the step;
--- nothing at red
+-- S(i,t,n): what cell i can send at step t where it holds n parts: those that reach its end at the speed of the step, or as many
+-- of them as can pass; nothing at red
 unfoldable pub sending_at : Network → (t i n : ℕ) → ℕ
 sending_at net t i n = sending_flow (arriving (speed_at net.plan i t) n) (capacity_at net.plan i t) (green_at net.plan i t)
 

@@ -1,7 +1,7 @@
 -- The rows while a step is under way, for the loop of `plain_step` alone: each cell has taken its demand, and then one
 -- connector after the other takes what leaves its cells upstream and brings it to its cells downstream.
 use Rattle.std.specs.Prelude.{ℕ, ◌+◌, ◌-◌, ◌<◌, ◌≤◌, ◌^◌, List, length, take, if◌then◌else◌}
-use Rattle.signal_plan.specs.Demand.{demand_at}
+use Rattle.step_plan.specs.Demand.{demand_at}
 use Rattle.network_file.specs.Cells.{is_gate_at}
 use Rattle.network_file.specs.Network.{Network}
 use Rattle.flow_model.specs.Rows.{moved_row}

@@ -5,7 +5,7 @@ use Rattle.network_file.specs.Network.{Network}
 use Rattle.flow_model.specs.Flows.{inflow, outflow}
 use Rattle.flow_model.specs.declared.row.Row.{Row}
 
--- the row of a cell of which nothing is known
+-- the row in which all is 0
 abbrev pub empty_row : Row
 empty_row = record { n = 0; come = 0; gone = 0; wait = 0 }
 

@@ -1,5 +1,5 @@
 -- The rows of all cells at each step: the recurrences.
-use Rattle.std.specs.Prelude.{ℕ, zero, suc, List, map, length, slice_index, slice_index_or, sum_by}
+use Rattle.std.specs.Prelude.{ℕ, zero, suc, List, map, length, slice_index_or, sum_by}
 use Rattle.std.specs.List.{range_with_len}
 use Rattle.network_file.specs.Network.{Network}
 use Rattle.flow_model.specs.Rows.{empty_row, next_row}
@@ -21,11 +21,6 @@ next_rows net t rows = map (λ i. next_row net t (occupancy rows) i (row_at rows
 unfoldable pub state_at : Network → (t : ℕ) → List Row
 state_at net zero = map (λ cell. record empty_row { n = cell.first }) net.cells
 state_at net (suc t) = next_rows net t (state_at net t)
-
--- the rows of these cells after step t, by their rows and by what all cells around them hold as it begins
-unfoldable pub rows_after : Network → (t : ℕ) → (n : ℕ → ℕ) → (cells : List ℕ) → List Row → List Row
-rows_after net t n cells rows =
-    map (λ p. next_row net t n (slice_index cells p) (row_at rows p)) (range_with_len 0 (length cells))
 
 -- the delay of a run that ended with these rows: the waits of all cells, parts times steps
 unfoldable pub delay_of : List Row → ℕ

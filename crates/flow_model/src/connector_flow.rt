@@ -1,6 +1,7 @@
 ghost use Rattle.std.specs.Prelude.{◌≡◌, ◌+◌, ◌<◌, length};
-ghost use Rattle.network_file.specs.Connectors.{cells_of, connector_at};
-ghost use Rattle.network_file.specs.Network.{IsSoundConnector};
+ghost use Rattle.network_file.specs.Connectors.{cells_of};
+ghost use Rattle.network_file.specs.Numbered.{connector_at};
+ghost use Rattle.network_file.specs.Sound.{IsSoundConnector};
 ghost use Rattle.flow_model.specs.Flows.{flow_between};
 ghost use Rattle.flow_model.specs.FlowLaw.{SendsAtMost, ReceivesAtMost};
 ghost use Rattle.flow_model.specs.Bounds.{AreHeldInBounds};

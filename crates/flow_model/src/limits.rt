@@ -1,5 +1,6 @@
 ghost use Rattle.std.specs.Prelude.{◌≡◌, ◌<◌, length};
-ghost use Rattle.signal_plan.specs.Speeds.{IsSpeed, arriving};
+ghost use Rattle.step_plan.specs.Speeds.{arriving};
+ghost use Rattle.step_plan.specs.SpeedBounds.{IsSpeed};
 ghost use Rattle.flow_model.specs.Limits.{room_of, sending_at, receiving_at};
 ghost use Rattle.flow_model.specs.Bounds.{IsHeldInBounds};
 

@@ -1,6 +1,7 @@
 ghost use Rattle.std.specs.Prelude.{◌≡◌, ℕ, ◌+◌, ◌<◌, ◌≤◌, length, slice_set};
-ghost use Rattle.network_file.specs.Network.{IsNetwork};
-ghost use Rattle.network_file.specs.Connectors.{cells_of, connector_at, downstream_of, upstream_of};
+ghost use Rattle.network_file.specs.Sound.{IsNetwork};
+ghost use Rattle.network_file.specs.Connectors.{cells_of, downstream_of, upstream_of};
+ghost use Rattle.network_file.specs.Numbered.{connector_at};
 ghost use Rattle.flow_model.specs.Bounds.{AreInBounds, KeepsRooms};
 ghost use Rattle.flow_model.specs.Moves.{CanEnter, CanLeave, row_less, row_more, with_connectors};
 ghost use Rattle.flow_model.specs.State.{next_rows, row_at, state_at};

@@ -1,7 +1,7 @@
 -- The fields of the lines on out: what stands between the commas.
-use Rattle.std.specs.Prelude.{ℕ, List, ◌++◌, ℤ, codes, decimal, flat_map}
+use Rattle.std.specs.Prelude.{ℕ, List, ◌++◌, codes, decimal, flat_map}
 use Rattle.std.specs.List.{range_with_len}
-use Rattle.fixed_flow.specs.Printed.{amount_text, signed_amount_text}
+use Rattle.fixed_flow.specs.Printed.{amount_text}
 use Rattle.flow_model.specs.declared.row.Row.{Row}
 
 -- a comma and a count
@@ -12,14 +12,10 @@ count_field count = codes "," ++ decimal count
 abbrev pub amount_field : ℕ → List ℕ
 amount_field parts = codes "," ++ amount_text parts
 
--- a comma and an amount that may be negative
-abbrev pub signed_field : ℤ → List ℕ
-signed_field parts = codes "," ++ signed_amount_text parts
-
 -- `name,n,come,gone,wait`
 unfoldable pub row_fields : (name : List ℕ) → Row → List ℕ
 row_fields name row = name ++ amount_field row.n ++ amount_field row.come ++ amount_field row.gone ++ amount_field row.wait
 
--- one line for each of the first cells, so many of them, in the order of the file
+-- one line for each of the first `cells` cells, in the order of the file
 unfoldable pub lines_of : (ℕ → List ℕ) → (cells : ℕ) → List ℕ
 lines_of line cells = flat_map line (range_with_len 0 cells)

@@ -1,6 +1,7 @@
 ghost use Rattle.std.specs.Prelude.{◌≡◌, ◌++◌, ℕ, OnOk, pos};
 ghost use Rattle.std.specs.Io.{StartsWith};
-ghost use Rattle.line_fields.specs.Fields.{amount_field, signed_field};
+ghost use Rattle.line_fields.specs.Fields.{amount_field};
+ghost use Rattle.line_fields.specs.SignedFields.{signed_field};
 
 use fixed_flow::{Amount, Text48, put_wide};
 use no_memory::NoMemory;
@@ -18,7 +19,7 @@ pub fn put_amount(text: &mut Vec<u8>, parts: u64) -> Result<(), NoMemory>
 }
 
 /// Appends a comma and a sum of amounts, in parts, of either sign.
-#[tactic(auto, unfolding(fixed_flow::specs::Printed::signed_amount_text))]
+#[tactic(auto, unfolding(fixed_flow::specs::Signed::signed_amount_text))]
 pub fn put_signed(text: &mut Vec<u8>, sum: i128) -> Result<(), NoMemory>
     ensures field { OnOk result (text.new.items ≡ text.old.items ++ signed_field sum) }
 

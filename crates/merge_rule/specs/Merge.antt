@@ -6,8 +6,8 @@ use Rattle.fixed_flow.specs.Middle.{middle_of}
 abbrev pub first_share : (r p1 p2 : ℕ) → ℕ
 first_share r p1 p2 = p1 * r / (p1 + p2)
 
--- of each sender all that it has, where there is room for all; else the middle of what it has, of what the other leaves, and
--- of its share; that middle is never negative
+-- what passes of each sender: where there is room for all, all that it has; else the middle one of three, which is never negative:
+-- what it has, what the other leaves of the room, and its share of the room
 unfoldable pub merge_of : (s1 s2 r p1 p2 : ℕ) → ℕ × ℕ
 merge_of s1 s2 r p1 p2 =
     let share = pos (first_share r p1 p2) in

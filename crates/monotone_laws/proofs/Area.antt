@@ -3,9 +3,10 @@ use Rattle.std.specs.Prelude.{not, sum_by, if◌then◌else◌}
 use Rattle.std.specs.List.{range_with_len}
 use Rattle.std.proofs.Common.{◌≡◌, inl, inr, ℕ, zero, suc, add-one, true, ◌+◌, ◌<◌, ◌≤◌, List, length, arith, refl, sym, ◌∙◌}
 use Rattle.std.proofs.lemmas.Bool.{cases_Bool}
-use Rattle.signal_plan.proofs.Sums.{sum_by-same}
+use Rattle.step_plan.proofs.Sums.{sum_by-same}
 use Rattle.network_file.specs.Cells.{is_exit_at, is_gate_at}
-use Rattle.network_file.specs.Network.{IsNetwork, Network}
+use Rattle.network_file.specs.Network.{Network}
+use Rattle.network_file.specs.Sound.{IsNetwork}
 use Rattle.flow_model.specs.State.{delay_of, occupancy, state_at}
 use Rattle.flow_model.proofs.Flows.{outflow-exit}
 use Rattle.flow_model.proofs.States.{state_at-in_bounds}

@@ -1,10 +1,12 @@
 -- The laws of two networks, of rows at one step.
 use Rattle.std.proofs.Common.{◌≡◌, ℕ, ◌<◌, ◌≤◌, List, length, arith}
-use Rattle.network_file.specs.Network.{IsNetwork, Network}
+use Rattle.network_file.specs.Network.{Network}
+use Rattle.network_file.specs.Sound.{IsNetwork}
 use Rattle.flow_model.specs.State.{delay_of}
 use Rattle.flow_model.specs.declared.row.Row.{Row}
 use Rattle.flow_model.proofs.States.{length-state_at}
-use Rattle.flow_ledger.specs.Flight.{come_of, gone_of}
+use Rattle.flow_ledger.specs.Flight.{gone_of}
+use Rattle.flow_ledger.specs.Books.{come_of}
 use Rattle.monotone_laws.specs.Demands.{MoreByEachStep, MoreInEachStep, SameDemands}
 use Rattle.monotone_laws.specs.Eased.{AreAlike, IsEased}
 use Rattle.monotone_laws.specs.Links.{HasLinksAlone}

@@ -3,11 +3,12 @@ use Rattle.std.specs.Prelude.{sum_by, min, ◌==◌}
 use Rattle.std.proofs.Common.{◌≡◌, ℕ, zero, suc, add-one, true, false, ◌+◌, ◌<◌, ◌≤◌, [], length, arith, refl, subst, ◌∙◌}
 use Rattle.std.proofs.lemmas.Bool.{eq-eqb}
 use Rattle.std.proofs.lemmas.List.Sums.{sum_by-cons}
-use Rattle.signal_plan.specs.Total.{demand_from}
-use Rattle.signal_plan.proofs.Laws.{demand_from_next, demand_from_none}
+use Rattle.step_plan.specs.Total.{demand_from}
+use Rattle.step_plan.proofs.Laws.{demand_from_next, demand_from_none}
 use Rattle.network_file.specs.Cells.{is_exit_at, is_gate_at}
 use Rattle.network_file.specs.Connectors.{downstream_of, leads_out_of, upstream_of}
-use Rattle.network_file.specs.Network.{IsNetwork, Network}
+use Rattle.network_file.specs.Network.{Network}
+use Rattle.network_file.specs.Sound.{IsNetwork}
 use Rattle.network_file.specs.declared.connector.Connector.{Connector}
 use Rattle.flow_model.specs.Bounds.{first_at}
 use Rattle.flow_model.specs.Flows.{flow_of, leaving, outflow}
@@ -16,7 +17,8 @@ use Rattle.flow_model.specs.State.{occupancy, state_at}
 use Rattle.flow_model.proofs.CellFlows.{outflow-by}
 use Rattle.flow_model.proofs.Flows.{inflow-gate}
 use Rattle.flow_model.proofs.States.{state_at-in_bounds}
-use Rattle.flow_ledger.specs.Flight.{come_of, gone_of}
+use Rattle.flow_ledger.specs.Flight.{gone_of}
+use Rattle.flow_ledger.specs.Books.{come_of}
 use Rattle.flow_ledger.specs.FlightLaw.{leaves}
 use Rattle.flow_ledger.proofs.EvenFlights.{even}
 use Rattle.flow_ledger.proofs.StateRows.{come-next, come-zero, gone-next}

@@ -5,12 +5,13 @@ use Rattle.std.proofs.Common.{◌≡◌, inl, inr, ℕ, zero, suc, add-one, true
 use Rattle.std.proofs.lemmas.Bool.{cases_Bool}
 use Rattle.std.proofs.lemmas.List.Elements.{All-from_get_or}
 use Rattle.std.proofs.lemmas.List.Sums.{sum_by-cons}
-use Rattle.signal_plan.specs.Demand.{demand_at}
-use Rattle.signal_plan.specs.Total.{demand_from}
-use Rattle.signal_plan.proofs.Laws.{demand_from_next, demand_from_none}
-use Rattle.signal_plan.proofs.Sums.{sum_by-same, sum_by_splits}
+use Rattle.step_plan.specs.Demand.{demand_at}
+use Rattle.step_plan.specs.Total.{demand_from}
+use Rattle.step_plan.proofs.Laws.{demand_from_next, demand_from_none}
+use Rattle.step_plan.proofs.Sums.{sum_by-same, sum_by_splits}
 use Rattle.network_file.specs.Cells.{is_exit_at, is_gate_at}
-use Rattle.network_file.specs.Connectors.{connector_at, downstream_of, upstream_of}
+use Rattle.network_file.specs.Connectors.{downstream_of, upstream_of}
+use Rattle.network_file.specs.Numbered.{connector_at}
 use Rattle.network_file.specs.Network.{Network}
 use Rattle.network_file.specs.declared.connector.Connector.{Connector}
 use Rattle.network_file.specs.declared.connector.Connector.TheVariants.{Link, Merge, Diverge}

@@ -3,14 +3,15 @@ use Rattle.std.specs.Prelude.{sum_by}
 use Rattle.std.specs.List.{range_with_len}
 use Rattle.std.proofs.Common.{◌≡◌, inl, inr, ℕ, zero, suc, add-one, true, false, ◌+◌, ◌<◌, ◌≤◌, length, arith, refl, ap, sym, ◌∙◌}
 use Rattle.std.proofs.lemmas.Bool.{cases_Bool}
-use Rattle.signal_plan.specs.Total.{demand_from}
-use Rattle.signal_plan.proofs.Laws.{demand_from_next, demand_from_none}
-use Rattle.signal_plan.proofs.Sums.{sum_by-same}
+use Rattle.step_plan.specs.Total.{demand_from}
+use Rattle.step_plan.proofs.Laws.{demand_from_next, demand_from_none}
+use Rattle.step_plan.proofs.Sums.{sum_by-same}
 use Rattle.network_file.specs.Cells.{is_exit_at, is_gate_at}
 use Rattle.network_file.specs.Network.{Network}
 use Rattle.network_file.specs.declared.cell.Cell.{Cell}
 use Rattle.flow_model.specs.State.{state_at}
-use Rattle.flow_ledger.specs.Books.{entered_of, initial_of, left_of}
+use Rattle.flow_ledger.specs.Books.{entered_of, left_of}
+use Rattle.flow_ledger.specs.Balances.{initial_of}
 use Rattle.flow_ledger.proofs.BooksLaws.{state-balance}
 use Rattle.flow_ledger.proofs.ConnectorSums.{All-below}
 use Rattle.monotone_laws.specs.Demands.{MoreByEachStep, SameDemands}

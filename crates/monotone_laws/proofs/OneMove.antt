@@ -4,7 +4,8 @@ use Rattle.std.proofs.Math.Nat.{div-mul-le_self, le_of_mul-le-mul_right, mul_com
 use Rattle.std.proofs.lemmas.Bool.{cases_lt}
 use Rattle.std.proofs.lemmas.Nat.{le-div}
 use Rattle.ordinary_link.specs.Flows.{sending_flow}
-use Rattle.signal_plan.specs.Speeds.{IsSpeed, arriving}
+use Rattle.step_plan.specs.Speeds.{arriving}
+use Rattle.step_plan.specs.SpeedBounds.{IsSpeed}
 
 times_sum : (a y d : ℕ) → a * (y + d) ≡ a * y + a * d
 times_sum a y d = grind arith

@@ -2,12 +2,13 @@
 use Rattle.std.specs.Prelude.{slice_get, Some}
 use Rattle.std.proofs.Common.{◌≡◌, ℕ, min, true, ◌+◌, ◌-◌, ◌<◌, ◌≤◌, length, arith, refl, subst, sym, false, ◌∙◌}
 use Rattle.ordinary_link.specs.Flows.{receiving_flow}
-use Rattle.signal_plan.specs.Capacity.{capacity_at}
-use Rattle.signal_plan.specs.Green.{green_at}
-use Rattle.signal_plan.specs.Speeds.{arriving, speed_at}
+use Rattle.step_plan.specs.Capacity.{capacity_at}
+use Rattle.step_plan.specs.Green.{green_at}
+use Rattle.step_plan.specs.Speeds.{arriving, speed_at}
 use Rattle.network_file.specs.Cells.{is_exit, is_exit_at, is_gate, is_gate_at, is_road, is_road_at}
-use Rattle.network_file.specs.Connectors.{connector_at}
-use Rattle.network_file.specs.Network.{IsNetwork, IsSoundCell, IsSoundKind, Network}
+use Rattle.network_file.specs.Numbered.{connector_at}
+use Rattle.network_file.specs.Network.{Network}
+use Rattle.network_file.specs.Sound.{IsNetwork, IsSoundCell, IsSoundKind}
 use Rattle.network_file.specs.declared.cell.Cell.{Cell}
 use Rattle.network_file.specs.declared.cell.Kind.{Kind}
 use Rattle.network_file.specs.declared.cell.Kind.TheVariants.{Road, Gate, Exit}

@@ -5,7 +5,8 @@ use Rattle.std.specs.List.{list_any}
 use Rattle.std.proofs.Common.{◌≡◌, inl, inr, ℕ, zero, suc, add-one, true, false, ◌+◌, ◌-◌, ◌<◌, ◌≤◌, length, arith, subst, sym, ◌∙◌}
 use Rattle.network_file.specs.Cells.{is_gate_at}
 use Rattle.network_file.specs.Connectors.{leads_into, leads_out_of}
-use Rattle.network_file.specs.Network.{IsNetwork, Network}
+use Rattle.network_file.specs.Network.{Network}
+use Rattle.network_file.specs.Sound.{IsNetwork}
 use Rattle.flow_ledger.proofs.StateRows.{come-none, gone-none, gone-zero}
 use Rattle.monotone_laws.specs.Eased.{AreAlike}
 use Rattle.monotone_laws.specs.Links.{HasLinksAlone, is_link}

@@ -1,7 +1,7 @@
 -- The demands of two networks beside one another.
 use Rattle.std.specs.Prelude.{◌≡◌, ℕ, ◌<◌, ◌≤◌, length, true}
-use Rattle.signal_plan.specs.Demand.{demand_at}
-use Rattle.signal_plan.specs.Total.{demand_from}
+use Rattle.step_plan.specs.Demand.{demand_at}
+use Rattle.step_plan.specs.Total.{demand_from}
 use Rattle.network_file.specs.Cells.{is_gate_at}
 use Rattle.network_file.specs.Network.{Network}
 

@@ -1,6 +1,7 @@
 ghost use Rattle.std.specs.Prelude.{◌≡◌, ◌+◌, ◌<◌, ◌≤◌, length};
 ghost use Rattle.flow_model.specs.State.{delay_of};
-ghost use Rattle.flow_ledger.specs.Flight.{come_of, gone_of};
+ghost use Rattle.flow_ledger.specs.Flight.{gone_of};
+ghost use Rattle.flow_ledger.specs.Books.{come_of};
 ghost use Rattle.monotone_laws.specs.Demands.{MoreByEachStep, MoreInEachStep, SameDemands};
 ghost use Rattle.monotone_laws.specs.Eased.{AreAlike, IsEased};
 ghost use Rattle.monotone_laws.specs.Links.{HasLinksAlone};

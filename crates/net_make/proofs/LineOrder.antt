@@ -6,7 +6,7 @@ use Rattle.std.proofs.lemmas.Grind.{flat_map-append}
 use Rattle.std.proofs.lemmas.List.{append-nil, length-append, map-append, map-id}
 use Rattle.std.proofs.lemmas.List.Elements.{filter-append}
 use Rattle.std.proofs.lemmas.List.FromFn.{map-range_with_len_more}
-use Rattle.net_make.specs.Made.{cell_lines, main_cells, text_of}
+use Rattle.net_make.specs.Made.{main_cell_lines, main_cells, text_of}
 
 -- a line, ended by a line feed
 abbrev pub ended : List ℕ → List ℕ
@@ -53,8 +53,8 @@ count-passing-yes test i passes = ap length (passing-yes test i passes) ∙ leng
 
 -- the lines of one more main cell
 pub text_of-cells-more : (size n : ℕ) →
-    text_of (flat_map (cell_lines size) (main_cells (n + 1))) ≡ text_of (flat_map (cell_lines size) (main_cells n)) ++ text_of (cell_lines size n)
+    text_of (flat_map (main_cell_lines size) (main_cells (n + 1))) ≡ text_of (flat_map (main_cell_lines size) (main_cells n)) ++ text_of (main_cell_lines size n)
 text_of-cells-more size n =
-    ap (λ cells. text_of (flat_map (cell_lines size) cells)) (main_cells-more n) ∙
-    ap text_of (flat_map-append (cell_lines size) (main_cells n) (n ∷ []) ∙ ap (λ last. flat_map (cell_lines size) (main_cells n) ++ last) (append-nil (cell_lines size n))) ∙
-    flat_map-append ended (flat_map (cell_lines size) (main_cells n)) (cell_lines size n)
+    ap (λ cells. text_of (flat_map (main_cell_lines size) cells)) (main_cells-more n) ∙
+    ap text_of (flat_map-append (main_cell_lines size) (main_cells n) (n ∷ []) ∙ ap (λ last. flat_map (main_cell_lines size) (main_cells n) ++ last) (append-nil (main_cell_lines size n))) ∙
+    flat_map-append ended (flat_map (main_cell_lines size) (main_cells n)) (main_cell_lines size n)

@@ -33,15 +33,15 @@ unfoldable pub head : (size : ℕ) → List (List ℕ)
 head size = codes "ctm,1" ∷ (codes "steps," ++ decimal (40 + 2 * size)) ∷ codes "gate,g,2,0" ∷ []
 
 -- a main cell, and behind it its ramp
-abbrev pub cell_lines : (size i : ℕ) → List (List ℕ)
-cell_lines size i =
+abbrev pub main_cell_lines : (size i : ℕ) → List (List ℕ)
+main_cell_lines size i =
     (codes "road,m" ++ decimal i ++ codes ",12,4,1,2,0")
     ∷ line_where (has_on_ramp i) (codes "gate,r" ++ decimal i ++ codes ",1,0")
     ++ line_where (has_off_ramp size i) (codes "exit,f" ++ decimal i ++ codes ",2")
 
 -- the main cells with their ramps, and the exit
 unfoldable pub cells : (size : ℕ) → List (List ℕ)
-cells size = flat_map (cell_lines size) (main_cells size) ++ codes "exit,out,4" ∷ []
+cells size = flat_map (main_cell_lines size) (main_cells size) ++ codes "exit,out,4" ∷ []
 
 -- from a main cell to the next
 abbrev pub connector_line : (size i : ℕ) → List ℕ

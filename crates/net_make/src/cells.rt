@@ -1,5 +1,5 @@
 ghost use Rattle.std.specs.Prelude.{◌≡◌, ◌<◌, ◌++◌, OnOk, codes, decimal};
-ghost use Rattle.net_make.specs.Made.{cell_lines, cells, has_off_ramp, has_on_ramp, line_where, text_of};
+ghost use Rattle.net_make.specs.Made.{main_cell_lines, cells, has_off_ramp, has_on_ramp, line_where, text_of};
 
 use crate::features::{has_off_ramp, has_on_ramp};
 use crate::numbers::put_number;
@@ -19,7 +19,7 @@ pub(crate) fn put_cells(text: &mut Vec<u8>, size: u32) -> Result<(), NoMemory>
 // Appends main cell `i` and its ramp.
 fn put_cell(text: &mut Vec<u8>, size: u32, i: u32) -> Result<(), NoMemory>
     requires { i < size }
-    ensures { OnOk result (text.new.items ≡ text.old.items ++ text_of (cell_lines size i)) }
+    ensures { OnOk result (text.new.items ≡ text.old.items ++ text_of (main_cell_lines size i)) }
 {
     put_number(text, b"road,m", i)?;
     text.extend_from_slice(b",12,4,1,2,0\n")?;

@@ -10,7 +10,7 @@ use Rattle.network_file.specs.Connectors.{leads_into, leads_out_of}
 use Rattle.network_file.specs.Draft.{Draft}
 use Rattle.network_file.specs.Fitting.{FitsConnector}
 use Rattle.network_file.specs.Formats.{most_records}
-use Rattle.network_file.specs.Network.{IsSoundConnector}
+use Rattle.network_file.specs.Sound.{IsSoundConnector}
 use Rattle.network_file.specs.declared.cell.Cell.{Cell}
 use Rattle.network_file.specs.declared.connector.Connector.TheVariants.{Link, Merge, Diverge}
 

@@ -1,6 +1,6 @@
 -- The code's constants are the numbers of the definitions.
 use Rattle.std.proofs.Common.{◌≡◌, refl}
-use Rattle.signal_plan.specs.declared.bounds.TheConstants.{MOST_RECORDS}
+use Rattle.step_plan.specs.declared.bounds.TheConstants.{MOST_RECORDS}
 use Rattle.network_file.specs.Formats.{most_records}
 use Rattle.network_file.specs.Limits.{most_bytes, most_capacity, most_regions, most_room}
 use Rattle.network_file.specs.declared.limits.TheConstants.{MOST_BYTES, MOST_CAPACITY, MOST_RECORDS_OF_FORMAT_1, MOST_REGIONS, MOST_ROOM}

@@ -4,9 +4,11 @@ use Rattle.std.proofs.Common.{ℕ, ◌≡◌, ◌==◌, ◌<◌, ◌≤◌, ◌^
 use Rattle.std.proofs.lemmas.List.{get_or-map, get_or_default}
 use Rattle.std.proofs.lemmas.List.Elements.{All-append, All-weaker}
 use Rattle.network_file.specs.Cells.{is_exit_at, is_gate_at, name_at}
-use Rattle.network_file.specs.Connectors.{cells_of, connector_at, downstream_of, upstream_of}
+use Rattle.network_file.specs.Connectors.{cells_of, downstream_of, upstream_of}
+use Rattle.network_file.specs.Numbered.{connector_at}
 use Rattle.network_file.specs.Formats.{most_records}
-use Rattle.network_file.specs.Network.{IsNetwork, IsSoundConnector, Network}
+use Rattle.network_file.specs.Network.{Network}
+use Rattle.network_file.specs.Sound.{IsNetwork, IsSoundConnector}
 use Rattle.network_file.specs.declared.cell.Cell.{Cell}
 use Rattle.network_file.specs.declared.connector.Connector.{Connector}
 use Rattle.network_file.specs.declared.connector.Connector.TheVariants.{Link}

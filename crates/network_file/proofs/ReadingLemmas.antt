@@ -7,7 +7,8 @@ use Rattle.network_file.specs.Formats.{format_of}
 use Rattle.record_fields.specs.FileRecords.{file_records_of}
 use Rattle.network_file.specs.Network.{Network}
 use Rattle.network_file.specs.Reading.{at_place, network_in_all, network_of, read_file, read_records}
-use Rattle.network_file.specs.Faults.{fault_at, refusal_at}
+use Rattle.network_file.specs.Faults.{fault_at}
+use Rattle.network_file.specs.Refusals.{refusal_at}
 use Rattle.network_file.specs.Taking.{take_record}
 use Rattle.record_fields.specs.declared.code.Code.{Code}
 use Rattle.record_fields.specs.declared.code.Code.TheVariants.{NoHeader}

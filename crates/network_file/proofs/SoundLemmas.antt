@@ -1,27 +1,33 @@
 -- What every network keeps is kept by one more cell, connector or record of the plan.
-use Rattle.std.proofs.Common.{ℕ, zero, suc, ◌≡◌, ◌<◌, ◌≤◌, ◌+◌, Bool, true, false, List, [], ◌∷◌, ◌++◌, Option, Some, None, cond, ◌∙◌, refl, ap, length, arith, length-append, eqb, map}
-use Rattle.std.specs.Prelude.{All, count_by, is_some, slice_get, ◌||◌}
+use Rattle.std.proofs.Common.{ℕ, zero, suc, ◌≡◌, ◌<◌, ◌≤◌, ◌+◌, Bool, true, false, List, [], ◌∷◌, ◌++◌, None, cond, ◌∙◌, inl, inr, refl, subst, sym, length, arith, length-append, eqb, map}
+use Rattle.std.specs.Prelude.{All, count_by, slice_get, ◌||◌}
 use Rattle.std.specs.List.{list_any}
 use Rattle.std.specs.Cmp.Lexicographic.{nat_list_eq_equiv}
-use Rattle.std.proofs.lemmas.Bool.{eqb-true}
-use Rattle.std.proofs.lemmas.List.{length-set, map-append}
-use Rattle.std.proofs.lemmas.List.Elements.{All-head, All-nil, All-push, All-set, All-tail}
+use Rattle.std.proofs.lemmas.Bool.{cases_eq, cases_lt, eqb-true}
+use Rattle.std.proofs.lemmas.List.{get_or_append_left, get_or_push, length_push, length-set, map-append}
+use Rattle.std.proofs.lemmas.List.Elements.{All-head, All-nil, All-push, All-tail}
 use Rattle.std.proofs.lemmas.List.Folds.{list_any-append}
 use Rattle.std.proofs.lemmas.List.Sums.{sum_by_push, sum_by-cons}
 use Rattle.std.proofs.lemmas.Map.Keys.{IsDistinct-push}
-use Rattle.std.proofs.lemmas.Option.{IfSome_then, slice_get_within}
-use Rattle.signal_plan.specs.Counts.{counts_of}
-use Rattle.signal_plan.specs.Green.{signal_of}
-use Rattle.signal_plan.specs.Limits.{most_steps}
-use Rattle.signal_plan.specs.Records.{CellRecords, DemandRecord, LimitRecord, PlannedCell, PlanRecords, SignalRecord, SpeedRecord, TurnRecord, bare_cell, planned_at, records_at, with_cell, with_demand, with_limit, with_records, with_signal, with_speed, with_turn}
-use Rattle.signal_plan.specs.Sound.{IsSoundSpeed, IsSoundTurn}
-use Rattle.signal_plan.specs.declared.plan_counts.PlanCounts.{PlanCounts}
-use Rattle.signal_plan.proofs.Counting.{counts_of-with_cell, counts_of-with_demand, counts_of-with_limit, counts_of-with_signal, counts_of-with_speed, counts_of-with_turn}
+use Rattle.std.proofs.lemmas.Option.{IfSome_then}
+use Rattle.step_plan.specs.Adding.{with_own, with_record}
+use Rattle.step_plan.specs.Counts.{counts_of}
+use Rattle.step_plan.specs.Counted.{with_one}
+use Rattle.step_plan.specs.Limits.{most_steps}
+use Rattle.step_plan.specs.Records.{CellRecords, PlannedCell, PlanRecords, bare_cell, planned_at, records_at, with_cell, with_records}
+use Rattle.step_plan.specs.Sound.{HasRoom, IsSoundRecord, IsSoundSpeed, IsSoundTurn}
+use Rattle.step_plan.specs.declared.cell_record.CellRecord.{CellRecord}
+use Rattle.step_plan.specs.declared.cell_record.CellRecord.TheVariants.{Signal, Limit, Demand, Turn, Speed}
+use Rattle.step_plan.proofs.Counting.{counts_of-with_cell, counts_of-with_record}
+use Rattle.step_plan.proofs.Planned.{planned_at-with_other, planned_at-with_same}
+use Rattle.network_file.specs.Draft.{Draft}
+use Rattle.network_file.specs.Fitting.{FitsKind, FitsRecord}
 use Rattle.network_file.specs.Formats.{most_records}
 use Rattle.network_file.proofs.CellLemmas.{no_name}
+use Rattle.network_file.proofs.NetworkFacts.{few_records}
 use Rattle.network_file.specs.Cells.{cell_named, is_exit_at, is_gate_at, is_road_at}
 use Rattle.network_file.specs.Connectors.{diverges_from, downstream_of, leads_into, leads_out_of, upstream_of}
-use Rattle.network_file.specs.Network.{HasSoundParts, IsPlanOf, IsPlannedCell, IsSoundCell, IsSoundConnector}
+use Rattle.network_file.specs.Sound.{AreFew, HasSoundParts, IsPlanOf, IsPlannedCell, IsSoundCell, IsSoundConnector}
 use Rattle.network_file.specs.declared.cell.Cell.{Cell}
 use Rattle.network_file.specs.declared.connector.Connector.{Connector}
 use Rattle.network_file.specs.Limits.{most_capacity, most_regions}
@@ -42,22 +48,6 @@ same_gate cells cell i h = rw (slice_get-push cells cell i h) refl
 
 same_road : (cells : List Cell) (cell : Cell) (i : ℕ) → i < length cells → is_road_at (cells ++ cell ∷ []) i ≡ is_road_at cells i
 same_road cells cell i h = rw (slice_get-push cells cell i h) refl
-
--- a gate is there
-gate-within : (cells : List Cell) (i : ℕ) → is_gate_at cells i ≡ true → i < length cells
-gate-within cells i h = by (slice_get cells i) refl h
-  where
-    by : (o : Option Cell) → slice_get cells i ≡ o → is_gate_at cells i ≡ true → i < length cells
-    by None e g = cc (rw e at g)
-    by (Some cell) e g = slice_get_within cells i cell e
-
--- so is a road
-road-within : (cells : List Cell) (i : ℕ) → is_road_at cells i ≡ true → i < length cells
-road-within cells i h = by (slice_get cells i) refl h
-  where
-    by : (o : Option Cell) → slice_get cells i ≡ o → is_road_at cells i ≡ true → i < length cells
-    by None e g = cc (rw e at g)
-    by (Some cell) e g = slice_get_within cells i cell e
 
 -- none passes where no element passes
 count_by-none : {X : Type 0} (p : X → Bool) (xs : List X) → list_any p xs ≡ false → count_by p xs ≡ 0
@@ -106,41 +96,48 @@ still_sound cells cell connector sound = record {
 }
 
 -- what a plan says of a cell of a draft fits the draft with one more cell
-still_planned : (cells : List Cell) (cell : Cell) (planned : PlannedCell) → IsPlannedCell cells planned → IsPlannedCell (cells ++ cell ∷ []) planned
-still_planned cells cell planned fits = record {
+still_planned : (cells : List Cell) (cell : Cell) (i : ℕ) (planned : PlannedCell) → i < length cells → IsPlannedCell cells i planned →
+    IsPlannedCell (cells ++ cell ∷ []) i planned
+still_planned cells cell i planned there fits = record {
   capacity = fits.capacity;
-  signal = IfSome_then planned.records.signal fits.signal (λ s here.
-      (simp length-append (omega (arith, here.0)), rw (same_exit cells cell s.cell here.0) here.1));
+  signal = IfSome_then planned.records.signal fits.signal (λ s sends. rw (same_exit cells cell i there) sends);
   limits = fits.limits;
   demands = λ k d h.
       let (gate, in_time) = fits.demands k d h in
-      (rw (same_gate cells cell _ (gate-within cells _ gate)) gate, in_time);
+      (rw (same_gate cells cell i there) gate, in_time);
   turns = fits.turns;
   speeds = λ k d h.
       let (road, in_time, sound) = fits.speeds k d h in
-      (rw (same_road cells cell _ (road-within cells _ road)) road, in_time, sound);
+      (rw (same_road cells cell i there) road, in_time, sound);
 }
 
 -- a cell without records
-bare_planned : (cells : List Cell) (capacity : ℕ) → capacity ≤ most_capacity → IsPlannedCell cells (bare_cell capacity)
-bare_planned cells capacity low =
+bare_planned : (cells : List Cell) (i capacity : ℕ) → capacity ≤ most_capacity → IsPlannedCell cells i (bare_cell capacity)
+bare_planned cells i capacity low =
     record { capacity = low; signal = tt; limits = All-nil _; demands = All-nil _; turns = All-nil _; speeds = All-nil _ }
+
+-- what holds of each cell of a plan, and of one without records, holds of each with one more cell
+each-with_cell : (P : ℕ → PlannedCell → Type 0) (plan : PlanRecords) (capacity i : ℕ) → (i < length plan.cells → P i (planned_at plan i)) →
+    (i ≡ length plan.cells → P i (bare_cell capacity)) → i < length plan.cells + 1 → P i (planned_at (with_cell plan capacity) i)
+each-with_cell P plan capacity i old last there = elim (cases_lt i (length plan.cells)) [
+  | inl before ↦ subst (P i) (sym (get_or_append_left plan.cells (bare_cell capacity ∷ []) (bare_cell 0) i before)) (old before)
+  | inr past ↦
+      let is : length plan.cells ≡ i = omega arith in
+      subst (P i) (sym (get_or_push plan.cells (bare_cell capacity) (bare_cell 0) i is)) (last (sym is))
+]
 
 -- a plan of the cells is one of one cell more
 plan-add_cell : (format : ℕ) (cells : List Cell) (plan : PlanRecords) (cell : Cell) (capacity : ℕ) → IsPlanOf format cells plan → capacity ≤ most_capacity
     → IsPlanOf format (cells ++ cell ∷ []) (with_cell plan capacity)
 plan-add_cell format cells plan cell capacity planned low =
-    let counts = counts_of-with_cell plan capacity in
     record {
       one_each = simp length-append (omega (arith, planned.one_each));
-      planned = All-push (IsPlannedCell (cells ++ cell ∷ [])) plan.cells (bare_cell capacity)
-          (λ k d h. still_planned cells cell _ (planned.planned k d h)) (bare_planned _ capacity low);
-      few_limits = omega (arith, planned.few_limits, ap (λ (n : PlanCounts). n.limits) counts);
-      few_demands = omega (arith, planned.few_demands, ap (λ (n : PlanCounts). n.demands) counts);
-      few_turns = omega (arith, planned.few_turns, ap (λ (n : PlanCounts). n.turns) counts);
-      few_speeds = omega (arith, planned.few_speeds, ap (λ (n : PlanCounts). n.speeds) counts);
-      no_turns = λ first. ap (λ (n : PlanCounts). n.turns) counts ∙ planned.no_turns first;
-      no_speeds = λ older. ap (λ (n : PlanCounts). n.speeds) counts ∙ planned.no_speeds older;
+      planned = λ i there. each-with_cell (IsPlannedCell (cells ++ cell ∷ [])) plan capacity i
+          (λ before.
+          let inside : i < length cells = omega (arith, planned.one_each) in
+          still_planned cells cell i _ inside (planned.planned i inside))
+          (λ last. bare_planned _ i capacity low) (omega (arith, planned.one_each, length_push cells cell));
+      few = subst (AreFew format) (sym (counts_of-with_cell plan capacity)) planned.few;
     }
 
 pub HasSoundParts-add_cell : (format : ℕ) (cells : List Cell) (connectors : List Connector) (plan : PlanRecords) (cell : Cell) (capacity : ℕ)
@@ -155,8 +152,9 @@ HasSoundParts-add_cell format cells connectors plan cell capacity sound room fre
   one_out = sound.one_out;
   one_in = sound.one_in;
   planned = plan-add_cell format cells plan cell capacity sound.planned low;
-  turns_diverge = All-push (λ planned. All (λ turn. list_any (diverges_from turn.cell) connectors ≡ true) planned.records.turns) plan.cells (bare_cell capacity)
-      sound.turns_diverge (All-nil _);
+  turns_diverge = λ i there. each-with_cell (λ k planned. All (λ turn. list_any (diverges_from k) connectors ≡ true) planned.records.turns) plan capacity i
+      (λ before. sound.turns_diverge i (omega (arith, sound.planned.one_each))) (λ last. All-nil _)
+      (omega (arith, sound.planned.one_each, length_push cells cell));
 }
 
 pub HasSoundParts-add_connector : (format : ℕ) (cells : List Cell) (connectors : List Connector) (plan : PlanRecords) (connector : Connector)
@@ -175,27 +173,106 @@ HasSoundParts-add_connector format cells connectors plan connector sound room fi
   one_in = λ i. count_by-push (leads_into i) connectors connector (sound.one_in i)
       (All-found (λ down. list_any (leads_into down) connectors ≡ false) i (downstream_of connector) down_free);
   planned = sound.planned;
-  turns_diverge = λ i p there k d h. list_any-kept (diverges_from _) connectors connector (sound.turns_diverge i p there k d h);
+  turns_diverge = λ i there k d h. list_any-kept (diverges_from i) connectors connector (sound.turns_diverge i there k d h);
 }
 
--- what a plan says of a cell that is there
-planned-there : (format : ℕ) (cells : List Cell) (plan : PlanRecords) (cell : ℕ) → IsPlanOf format cells plan → cell < length cells
-    → IsPlannedCell cells (planned_at plan cell)
-planned-there format cells plan cell planned there = planned.planned cell (bare_cell 0) (omega (arith, planned.one_each))
+-- what a plan says of a cell that may have a record, with it
+planned-with : (draft : Draft) (cell : ℕ) (planned : PlannedCell) (one : CellRecord) → FitsKind draft cell one → IsSoundRecord one →
+    IsPlannedCell draft.cells cell planned → IsPlannedCell draft.cells cell (record planned { records = with_own planned.records one })
+planned-with draft cell planned (Signal signal) fits sound old =
+    record { capacity = old.capacity; signal = fits.sends; limits = old.limits; demands = old.demands; turns = old.turns; speeds = old.speeds }
+planned-with draft cell planned (Limit limit) fits sound old = record {
+  capacity = old.capacity;
+  signal = old.signal;
+  limits = All-push (λ l. (l.to ≤ most_steps) × (l.capacity ≤ most_capacity)) planned.records.limits limit old.limits (fits.in_time, fits.low);
+  demands = old.demands;
+  turns = old.turns;
+  speeds = old.speeds;
+}
+planned-with draft cell planned (Demand demand) fits sound old = record {
+  capacity = old.capacity;
+  signal = old.signal;
+  limits = old.limits;
+  demands = All-push (λ d. (is_gate_at draft.cells cell ≡ true) × (d.to ≤ most_steps)) planned.records.demands demand old.demands (fits.gate, fits.in_time);
+  turns = old.turns;
+  speeds = old.speeds;
+}
+planned-with draft cell planned (Turn turn) fits sound old = record {
+  capacity = old.capacity;
+  signal = old.signal;
+  limits = old.limits;
+  demands = old.demands;
+  turns = All-push (λ t. (t.to ≤ most_steps) × IsSoundTurn t) planned.records.turns turn old.turns (fits.in_time, sound);
+  speeds = old.speeds;
+}
+planned-with draft cell planned (Speed speed) fits sound old = record {
+  capacity = old.capacity;
+  signal = old.signal;
+  limits = old.limits;
+  demands = old.demands;
+  turns = old.turns;
+  speeds = All-push (λ s. (is_road_at draft.cells cell ≡ true) × (s.to ≤ most_steps) × IsSoundSpeed s) planned.records.speeds speed old.speeds (fits.road, fits.in_time, sound);
+}
 
--- the turns of a cell that is there
-turns-there : (cells : List Cell) (connectors : List Connector) (format : ℕ) (plan : PlanRecords) (cell : ℕ) → HasSoundParts format cells connectors plan
-    → cell < length cells → All (λ turn. list_any (diverges_from turn.cell) connectors ≡ true) (records_at plan cell).turns
-turns-there cells connectors format plan cell sound there = sound.turns_diverge cell (bare_cell 0) (omega (arith, sound.planned.one_each))
+-- there are few enough with a record for which there is room
+few-with : (draft : Draft) (cell : ℕ) (one : CellRecord) → FitsKind draft cell one → AreFew draft.format (counts_of draft.plan) →
+    AreFew draft.format (with_one (counts_of draft.plan) one)
+few-with draft cell (Signal signal) fits few =
+    record { limits = few.limits; demands = few.demands; turns = few.turns; speeds = few.speeds; no_turns = few.no_turns; no_speeds = few.no_speeds }
+few-with draft cell (Limit limit) fits few =
+    record { limits = omega (arith, fits.room); demands = few.demands; turns = few.turns; speeds = few.speeds; no_turns = few.no_turns; no_speeds = few.no_speeds }
+few-with draft cell (Demand demand) fits few =
+    record { limits = few.limits; demands = omega (arith, fits.room); turns = few.turns; speeds = few.speeds; no_turns = few.no_turns; no_speeds = few.no_speeds }
+few-with draft cell (Turn turn) fits few = record {
+  limits = few.limits;
+  demands = few.demands;
+  turns = omega (arith, fits.room);
+  speeds = few.speeds;
+  no_turns = λ first. absurd (omega (arith, first, fits.second_format));
+  no_speeds = few.no_speeds;
+}
+few-with draft cell (Speed speed) fits few = record {
+  limits = few.limits;
+  demands = few.demands;
+  turns = few.turns;
+  speeds = omega (arith, fits.room);
+  no_turns = few.no_turns;
+  no_speeds = λ older. absurd (omega (arith, older, fits.third_format));
+}
 
--- what every network keeps, with other records of a cell
-with_own : (format : ℕ) (cells : List Cell) (connectors : List Connector) (plan : PlanRecords) (cell : ℕ) (added : CellRecords → CellRecords) (counts : PlanCounts)
-    → HasSoundParts format cells connectors plan → IsPlannedCell cells (record (planned_at plan cell) { records = added (records_at plan cell) })
-    → counts_of (with_records plan cell added) ≡ counts → counts.limits ≤ most_records format → counts.demands ≤ most_records format → counts.turns ≤ most_records format
-    → counts.speeds ≤ most_records format → (format ≡ 1 → counts.turns ≡ 0) → (format ≤ 2 → counts.speeds ≡ 0) → All (λ turn. list_any (diverges_from turn.cell) connectors ≡ true) (added (records_at plan cell)).turns
-    → HasSoundParts format cells connectors (with_records plan cell added)
-with_own format cells connectors plan cell added counts sound fits are few_limits few_demands few_turns few_speeds no_turns no_speeds diverge =
-    let changed : PlannedCell = record (planned_at plan cell) { records = added (records_at plan cell) } in
+-- a diverge leads out of a cell that has turns, also with a record that it may have
+diverge-with : (draft : Draft) (cell : ℕ) (own : CellRecords) (one : CellRecord) → FitsKind draft cell one →
+    All (λ turn. list_any (diverges_from cell) draft.connectors ≡ true) own.turns →
+    All (λ turn. list_any (diverges_from cell) draft.connectors ≡ true) (with_own own one).turns
+diverge-with draft cell own (Signal signal) fits old = old
+diverge-with draft cell own (Limit limit) fits old = old
+diverge-with draft cell own (Demand demand) fits old = old
+diverge-with draft cell own (Turn turn) fits old = All-push (λ t. list_any (diverges_from cell) draft.connectors ≡ true) own.turns turn old fits.diverges
+diverge-with draft cell own (Speed speed) fits old = old
+
+-- the plan has room for a record that the draft can take
+pub has_room : (draft : Draft) (cell : ℕ) (one : CellRecord) → FitsKind draft cell one → HasRoom draft.plan cell one
+has_room draft cell (Signal signal) fits = fits.first
+has_room draft cell (Limit limit) fits = tt
+has_room draft cell (Demand demand) fits = omega (arith, fits.room, few_records draft.format)
+has_room draft cell (Turn turn) fits = tt
+has_room draft cell (Speed speed) fits = tt
+
+-- what holds of each cell of a plan, and of one with other records, holds of each with these
+each-with_records : (P : ℕ → PlannedCell → Type 0) (plan : PlanRecords) (cell : ℕ) (added : CellRecords → CellRecords) (i : ℕ) → cell < length plan.cells →
+    P cell (record (planned_at plan cell) { records = added (records_at plan cell) }) → P i (planned_at plan i) →
+    P i (planned_at (with_records plan cell added) i)
+each-with_records P plan cell added i has changed old = elim (cases_eq i cell) [
+  | inl same ↦ rw (same, planned_at-with_same plan cell added has) changed
+  | inr other ↦ subst (P i) (sym (planned_at-with_other plan cell i added other)) old
+]
+
+pub HasSoundParts-add_record : (draft : Draft) (cell : ℕ) (one : CellRecord) → HasSoundParts draft.format draft.cells draft.connectors draft.plan →
+    FitsRecord draft cell one → HasSoundParts draft.format draft.cells draft.connectors (with_record draft.plan cell one)
+HasSoundParts-add_record draft cell one sound fits =
+    let plan = draft.plan in
+    let has : cell < length plan.cells = omega (arith, fits.there, sound.planned.one_each) in
+    let added : CellRecords → CellRecords = λ own. with_own own one in
     record {
       few_cells = sound.few_cells;
       few_connectors = sound.few_connectors;
@@ -206,103 +283,14 @@ with_own format cells connectors plan cell added counts sound fits are few_limit
       one_in = sound.one_in;
       planned = record {
         one_each = rw length-set sound.planned.one_each;
-        planned = All-set (IsPlannedCell cells) plan.cells cell changed fits sound.planned.planned;
-        few_limits = omega (arith, few_limits, ap (λ (n : PlanCounts). n.limits) are);
-        few_demands = omega (arith, few_demands, ap (λ (n : PlanCounts). n.demands) are);
-        few_turns = omega (arith, few_turns, ap (λ (n : PlanCounts). n.turns) are);
-        few_speeds = omega (arith, few_speeds, ap (λ (n : PlanCounts). n.speeds) are);
-        no_turns = λ first. ap (λ (n : PlanCounts). n.turns) are ∙ no_turns first;
-        no_speeds = λ older. ap (λ (n : PlanCounts). n.speeds) are ∙ no_speeds older;
+        planned = λ i there. each-with_records (IsPlannedCell draft.cells) plan cell added i has
+            (planned-with draft cell (planned_at plan cell) one fits.kind fits.sound (sound.planned.planned cell fits.there)) (sound.planned.planned i there);
+        few = subst (AreFew draft.format) (sym (counts_of-with_record plan cell one has (has_room draft cell one fits.kind)))
+            (few-with draft cell one fits.kind sound.planned.few);
       };
-      turns_diverge = All-set (λ planned. All (λ turn. list_any (diverges_from turn.cell) connectors ≡ true) planned.records.turns) plan.cells cell changed diverge
-          sound.turns_diverge;
+      turns_diverge = λ i there. each-with_records (λ k planned. All (λ turn. list_any (diverges_from k) draft.connectors ≡ true) planned.records.turns) plan cell added i has
+          (diverge-with draft cell (records_at plan cell) one fits.kind (sound.turns_diverge cell fits.there)) (sound.turns_diverge i there);
     }
-
-pub HasSoundParts-add_signal : (format : ℕ) (cells : List Cell) (connectors : List Connector) (plan : PlanRecords) (signal : SignalRecord)
-    → HasSoundParts format cells connectors plan → signal.cell < length cells → is_exit_at cells signal.cell ≡ false → is_some (signal_of plan signal.cell) ≡ false
-    → HasSoundParts format cells connectors (with_signal plan signal)
-HasSoundParts-add_signal format cells connectors plan signal sound there sends first =
-    let old = planned-there format cells plan signal.cell sound.planned there in
-    let old_turns = turns-there cells connectors format plan signal.cell sound there in
-    with_own format cells connectors plan signal.cell (λ own. record own { signal = Some signal }) (record (counts_of plan) { signals = (counts_of plan).signals + 1 }) sound (record {
-      capacity = old.capacity;
-      signal = (there, sends);
-      limits = old.limits;
-      demands = old.demands;
-      turns = old.turns;
-      speeds = old.speeds;
-    }) (counts_of-with_signal plan signal (omega (arith, there, sound.planned.one_each)) first) sound.planned.few_limits sound.planned.few_demands sound.planned.few_turns
-    sound.planned.few_speeds sound.planned.no_turns sound.planned.no_speeds old_turns
-
-pub HasSoundParts-add_limit : (format : ℕ) (cells : List Cell) (connectors : List Connector) (plan : PlanRecords) (limit : LimitRecord)
-    → HasSoundParts format cells connectors plan → limit.cell < length cells → (counts_of plan).limits < most_records format → limit.to ≤ most_steps → limit.capacity ≤ most_capacity
-    → HasSoundParts format cells connectors (with_limit plan limit)
-HasSoundParts-add_limit format cells connectors plan limit sound there room in_time low =
-    let own = records_at plan limit.cell in
-    let old = planned-there format cells plan limit.cell sound.planned there in
-    let old_turns = turns-there cells connectors format plan limit.cell sound there in
-    with_own format cells connectors plan limit.cell (λ own. record own { limits = own.limits ++ limit ∷ [] }) (record (counts_of plan) { limits = (counts_of plan).limits + 1 }) sound (record {
-      capacity = old.capacity;
-      signal = old.signal;
-      limits = All-push (λ l. (l.to ≤ most_steps) × (l.capacity ≤ most_capacity)) own.limits limit old.limits (in_time, low);
-      demands = old.demands;
-      turns = old.turns;
-      speeds = old.speeds;
-    }) (counts_of-with_limit plan limit (omega (arith, there, sound.planned.one_each))) (omega (arith, room)) sound.planned.few_demands sound.planned.few_turns
-    sound.planned.few_speeds sound.planned.no_turns sound.planned.no_speeds old_turns
-
-pub HasSoundParts-add_demand : (format : ℕ) (cells : List Cell) (connectors : List Connector) (plan : PlanRecords) (demand : DemandRecord)
-    → HasSoundParts format cells connectors plan → demand.cell < length cells → (counts_of plan).demands < most_records format → is_gate_at cells demand.cell ≡ true → demand.to ≤ most_steps
-    → HasSoundParts format cells connectors (with_demand plan demand)
-HasSoundParts-add_demand format cells connectors plan demand sound there room gate in_time =
-    let own = records_at plan demand.cell in
-    let old = planned-there format cells plan demand.cell sound.planned there in
-    let old_turns = turns-there cells connectors format plan demand.cell sound there in
-    with_own format cells connectors plan demand.cell (λ own. record own { demands = own.demands ++ demand ∷ [] }) (record (counts_of plan) { demands = (counts_of plan).demands + 1 }) sound (record {
-      capacity = old.capacity;
-      signal = old.signal;
-      limits = old.limits;
-      demands = All-push (λ d. (is_gate_at cells d.cell ≡ true) × (d.to ≤ most_steps)) own.demands demand old.demands (gate, in_time);
-      turns = old.turns;
-      speeds = old.speeds;
-    }) (counts_of-with_demand plan demand (omega (arith, there, sound.planned.one_each))) sound.planned.few_limits (omega (arith, room)) sound.planned.few_turns
-    sound.planned.few_speeds sound.planned.no_turns sound.planned.no_speeds old_turns
-
-pub HasSoundParts-add_turn : (format : ℕ) (cells : List Cell) (connectors : List Connector) (plan : PlanRecords) (turn : TurnRecord)
-    → HasSoundParts format cells connectors plan → turn.cell < length cells → 2 ≤ format → (counts_of plan).turns < most_records format → list_any (diverges_from turn.cell) connectors ≡ true
-    → turn.to ≤ most_steps → IsSoundTurn turn
-    → HasSoundParts format cells connectors (with_turn plan turn)
-HasSoundParts-add_turn format cells connectors plan turn sound there second room diverges in_time within =
-    let own = records_at plan turn.cell in
-    let old = planned-there format cells plan turn.cell sound.planned there in
-    let old_turns = turns-there cells connectors format plan turn.cell sound there in
-    with_own format cells connectors plan turn.cell (λ own. record own { turns = own.turns ++ turn ∷ [] }) (record (counts_of plan) { turns = (counts_of plan).turns + 1 }) sound (record {
-      capacity = old.capacity;
-      signal = old.signal;
-      limits = old.limits;
-      demands = old.demands;
-      turns = All-push (λ t. (t.to ≤ most_steps) × IsSoundTurn t) own.turns turn old.turns (in_time, within);
-      speeds = old.speeds;
-    }) (counts_of-with_turn plan turn (omega (arith, there, sound.planned.one_each))) sound.planned.few_limits sound.planned.few_demands (omega (arith, room))
-    sound.planned.few_speeds (λ first. absurd (omega (arith, first, second))) sound.planned.no_speeds (All-push (λ t. list_any (diverges_from t.cell) connectors ≡ true) own.turns turn old_turns diverges)
-
-pub HasSoundParts-add_speed : (format : ℕ) (cells : List Cell) (connectors : List Connector) (plan : PlanRecords) (speed : SpeedRecord)
-    → HasSoundParts format cells connectors plan → speed.cell < length cells → 3 ≤ format → (counts_of plan).speeds < most_records format → is_road_at cells speed.cell ≡ true
-    → speed.to ≤ most_steps → IsSoundSpeed speed
-    → HasSoundParts format cells connectors (with_speed plan speed)
-HasSoundParts-add_speed format cells connectors plan speed sound there third room road in_time within =
-    let own = records_at plan speed.cell in
-    let old = planned-there format cells plan speed.cell sound.planned there in
-    let old_turns = turns-there cells connectors format plan speed.cell sound there in
-    with_own format cells connectors plan speed.cell (λ own. record own { speeds = own.speeds ++ speed ∷ [] }) (record (counts_of plan) { speeds = (counts_of plan).speeds + 1 }) sound (record {
-      capacity = old.capacity;
-      signal = old.signal;
-      limits = old.limits;
-      demands = old.demands;
-      turns = old.turns;
-      speeds = All-push (λ s. (is_road_at cells s.cell ≡ true) × (s.to ≤ most_steps) × IsSoundSpeed s) own.speeds speed old.speeds (road, in_time, within);
-    }) (counts_of-with_speed plan speed (omega (arith, there, sound.planned.one_each))) sound.planned.few_limits sound.planned.few_demands sound.planned.few_turns
-    (omega (arith, room)) sound.planned.no_turns (λ older. absurd (omega (arith, older, third))) old_turns
 
 -- the regions of a draft with one more cell
 pub regions-add_cell : (cells : List Cell) (cell : Cell) (regions : List RegionRecord)

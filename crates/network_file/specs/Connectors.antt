@@ -1,5 +1,5 @@
 -- The cells of a connector, told here for every kind of it.
-use Rattle.std.specs.Prelude.{ℕ, Bool, false, ◌==◌, eqb, ◌&&◌, List, [], ◌∷◌, ◌++◌, slice_index_or}
+use Rattle.std.specs.Prelude.{ℕ, Bool, false, ◌==◌, eqb, ◌&&◌, List, [], ◌∷◌, ◌++◌}
 use Rattle.std.specs.List.{list_any}
 use Rattle.network_file.specs.declared.connector.Connector.{Connector}
 use Rattle.network_file.specs.declared.connector.Connector.TheVariants.{Link, Merge, Diverge}
@@ -16,12 +16,6 @@ downstream_of (Link up down) = down ∷ []
 downstream_of (Merge up1 up2 down p1 p2) = down ∷ []
 downstream_of (Diverge up down1 down2 b1 b2) = down1 ∷ down2 ∷ []
 
--- the priorities of a merge, the turning shares of a diverge
-abbrev pub weights_of : Connector → List ℕ
-weights_of (Link up down) = []
-weights_of (Merge up1 up2 down p1 p2) = p1 ∷ p2 ∷ []
-weights_of (Diverge up down1 down2 b1 b2) = b1 ∷ b2 ∷ []
-
 -- all its cells, in the order of its fields
 abbrev pub cells_of : Connector → List ℕ
 cells_of connector = upstream_of connector ++ downstream_of connector
@@ -37,10 +31,6 @@ abbrev pub diverges_from : (cell : ℕ) → Connector → Bool
 diverges_from cell (Link up down) = false
 diverges_from cell (Merge up1 up2 down p1 p2) = false
 diverges_from cell (Diverge up down1 down2 b1 b2) = cell == up
-
--- the connector of this number
-abbrev pub connector_at : List Connector → (k : ℕ) → Connector
-connector_at connectors k = slice_index_or connectors k (Link 0 0)
 
 -- whether the cell is one of the connector's
 abbrev pub touches : (cell : ℕ) → Connector → Bool

@@ -1,5 +1,5 @@
 -- The formats of a file: their headers, the records that each has, and how many of a sort.
-use Rattle.std.specs.Prelude.{ℕ, ◌≤◌, ◌==◌, ◌&&◌, List, Option, Some, None, if◌then◌else◌, bytes_eq, codes, length}
+use Rattle.std.specs.Prelude.{ℕ, ◌==◌, ◌&&◌, List, Option, Some, None, if◌then◌else◌, bytes_eq, codes, length}
 use Rattle.record_fields.specs.Fields.{field}
 
 -- the format that a header names: the two fields `ctm` and `1`, `2` or `3`
@@ -11,11 +11,6 @@ format_of header =
     else if bytes_eq (field header 1) (codes "3") then Some 3
     else None
     else None
-
--- there are three
-pub record IsFormat (format : ℕ) : Type 0 where
-  pub first : 1 ≤ format
-  pub last : format ≤ 3
 
 -- the most cells, the most connectors, and the most limit, demand, turn and speed records
 abbrev pub most_records : (format : ℕ) → ℕ

@@ -10,7 +10,8 @@ pub mod Limits
 pub mod NameIndexing
 pub mod NetView
 pub mod Network
+pub mod Numbered
 pub mod Reading
+pub mod Refusals
+pub mod Sound
 pub mod Taking
-pub use Rattle.record_fields.specs.Checks
-pub use Rattle.record_fields.specs.FaultCode

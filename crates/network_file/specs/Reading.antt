@@ -14,7 +14,7 @@ use Rattle.record_fields.specs.declared.code.Code.{Code}
 use Rattle.record_fields.specs.declared.code.Code.TheVariants.{NoHeader, NoSteps, NoCells, TooMuch, NoRegion, RegionGap}
 use Rattle.network_file.specs.declared.fault.NetFault.{NetFault}
 
--- the cutting that the region records of a draft make, or the fault that they have as a whole; without any there is none
+-- the cutting that the region records of a draft make, or the fault that they have as a whole; without such records the empty list
 unfoldable pub cutting_of_draft : Draft → Result (List ℕ) Code
 cutting_of_draft draft =
     let cells = length draft.cells in
@@ -33,19 +33,19 @@ network_in_all draft = do
   regions ← cutting_of_draft draft
   Ok (record { format = draft.format; steps = steps; cells = draft.cells; connectors = draft.connectors; plan = draft.plan; regions = regions })
 
--- what is wanted, or its fault at a place
+-- the value, or the fault of this code at a place
 abbrev pub at_place : {A : Type 0} → (place : ℕ) → Result A Code → Result A NetFault
 at_place place (Ok value) = Ok value
 at_place place (Err code) = Err (fault_at place code)
 
--- the records from this place on, taken one after the other; a fault of all together stands behind the last
+-- takes the records from this place on, one after the other; a fault of the file as a whole stands one place behind the last
 unfoldable pub read_records : (place : ℕ) → Draft → List (List (List ℕ)) → Result Network NetFault
 read_records place draft [] = at_place place (network_in_all draft)
 read_records place draft (fields ∷ rest) = do
   more ← at_place place (take_record draft fields)
   read_records (place + 1) more rest
 
--- the network of a list of records, of which the first is the header
+-- the network of a list of records, each a list of fields; the first record is the header
 unfoldable pub read_file : List (List (List ℕ)) → Result Network NetFault
 read_file [] = Err (fault_at 1 NoHeader)
 read_file (header ∷ rest) = do

@@ -2,9 +2,9 @@
 use Rattle.std.specs.Prelude.{ℕ, ◌-◌, ◌==◌, List, Some, None, Result, Ok, is_none, is_some, nat_lt, not, length, ok_or}
 use Rattle.std.specs.List.{list_any}
 use Rattle.fixed_flow.specs.Limits.{most_parts, most_ratio}
-use Rattle.signal_plan.specs.Counts.{counts_of}
-use Rattle.signal_plan.specs.Green.{signal_of}
-use Rattle.signal_plan.specs.Limits.{most_steps}
+use Rattle.step_plan.specs.Counts.{counts_of}
+use Rattle.step_plan.specs.Green.{signal_of}
+use Rattle.step_plan.specs.Limits.{most_steps}
 use Rattle.record_fields.specs.Checks.{◌>>=◌, ◌>>◌, must}
 use Rattle.network_file.specs.Draft.{Draft, with_entry}
 use Rattle.record_fields.specs.Fields.{field, whole_within, range_within, ratio, weights, amount_within}
@@ -20,6 +20,7 @@ use Rattle.record_fields.specs.declared.code.Code.{Code}
 use Rattle.record_fields.specs.declared.code.Code.TheVariants.{BadKind, BadCount, TooMany, Repeated, WrongKind}
 use Rattle.network_file.specs.declared.connector.Connector.TheVariants as connector
 use Rattle.network_file.specs.declared.entry.Entry.TheVariants as says
+use Rattle.step_plan.specs.declared.cell_record.CellRecord.TheVariants as of_cell
 use Rattle.record_fields.specs.declared.record_kind.RecordKind.{RecordKind}
 use Rattle.record_fields.specs.declared.record_kind.RecordKind.TheVariants.{Steps, Road, Gate, Exit, Link, Merge, Diverge, Signal, Limit, Demand, Turn, Region, Speed}
 
@@ -97,14 +98,14 @@ take_signal draft fields = do
   cycle ← whole_within 1 most_steps (field fields 2)
   offset ← whole_within 0 (cycle - 1) (field fields 3)
   (from, to) ← range_within cycle (field fields 4) (field fields 5)
-  Ok (with_entry draft (says.Signal (record { cell = cell; cycle = cycle; offset = offset; from = from; to = to })))
+  Ok (with_entry draft (says.Record cell (of_cell.Signal (record { cycle = cycle; offset = offset; from = from; to = to }))))
 
 unfoldable pub take_limit : Draft → List (List ℕ) → Result Draft Code
 take_limit draft fields = do
   cell ← known_cell draft.cells (field fields 1)
   (from, to) ← range_within most_steps (field fields 2) (field fields 3)
   capacity ← amount_within most_capacity (field fields 4)
-  Ok (with_entry draft (says.Limit (record { cell = cell; from = from; to = to; capacity = capacity })))
+  Ok (with_entry draft (says.Record cell (of_cell.Limit (record { from = from; to = to; capacity = capacity }))))
 
 unfoldable pub take_demand : Draft → List (List ℕ) → Result Draft Code
 take_demand draft fields = do
@@ -112,7 +113,7 @@ take_demand draft fields = do
   must (is_gate_at draft.cells gate) WrongKind
   (from, to) ← range_within most_steps (field fields 2) (field fields 3)
   amount ← amount_within most_parts (field fields 4)
-  Ok (with_entry draft (says.Demand (record { cell = gate; from = from; to = to; amount = amount })))
+  Ok (with_entry draft (says.Record gate (of_cell.Demand (record { from = from; to = to; amount = amount }))))
 
 unfoldable pub take_turn : Draft → List (List ℕ) → Result Draft Code
 take_turn draft fields = do
@@ -120,7 +121,7 @@ take_turn draft fields = do
   must (list_any (diverges_from cell) draft.connectors) WrongKind
   (from, to) ← range_within most_steps (field fields 2) (field fields 3)
   (b1, b2) ← weights most_ratio (field fields 4) (field fields 5)
-  Ok (with_entry draft (says.Turn (record { cell = cell; from = from; to = to; b1 = b1; b2 = b2 })))
+  Ok (with_entry draft (says.Record cell (of_cell.Turn (record { from = from; to = to; b1 = b1; b2 = b2 }))))
 
 unfoldable pub take_region : Draft → List (List ℕ) → Result Draft Code
 take_region draft fields = do
@@ -135,7 +136,7 @@ take_speed draft fields = do
   must (is_road_at draft.cells road) WrongKind
   (from, to) ← range_within most_steps (field fields 2) (field fields 3)
   (num, den) ← ratio most_ratio (field fields 4) (field fields 5)
-  Ok (with_entry draft (says.Speed (record { cell = road; from = from; to = to; num = num; den = den })))
+  Ok (with_entry draft (says.Record road (of_cell.Speed (record { from = from; to = to; num = num; den = den }))))
 
 abbrev pub take_kind : RecordKind → Draft → List (List ℕ) → Result Draft Code
 take_kind Steps = take_steps

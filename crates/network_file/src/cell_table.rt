@@ -1,15 +1,15 @@
 ghost use Rattle.std.specs.Prelude.{◌≡◌, ◌<◌, ◌≤◌, ◌*◌, ◌^◌, sum_by, ◌++◌, ◌∷◌, [], None, Some, IfOk, IfSome, length, true};
 ghost use Rattle.network_file.specs.Cells.{cell_named, is_exit_at, is_gate_at, is_road_at, name_at};
 ghost use Rattle.network_file.specs.declared.limits.TheConstants.{MOST_BYTES};
-ghost use Rattle.signal_plan.specs.declared.bounds.TheConstants.{MOST_RECORDS};
+ghost use Rattle.step_plan.specs.declared.bounds.TheConstants.{MOST_RECORDS};
 
 use crate::cell::{Cell, Kind};
 use crate::limits::MOST_BYTES;
 use crate::name_index::NameIndex;
 use no_memory::NoMemory;
-use signal_plan::MOST_RECORDS;
 use std::alloc::Global;
 use std::marker::Model;
+use step_plan::MOST_RECORDS;
 
 /// The cells read so far, in order, with an index of their names.
 #[derive(Drop)]

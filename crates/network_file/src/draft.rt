@@ -1,8 +1,8 @@
 ghost use Rattle.std.specs.Prelude.{◌≡◌, ◌≤◌, IfOk, length};
 ghost use Rattle.network_file.specs.Draft.{empty_draft, with_entry};
 ghost use Rattle.network_file.specs.declared.entry.Entry.TheVariants as says;
-ghost use Rattle.network_file.specs.Fitting.{FitsEntry, FitsCell, FitsConnector, FitsDemand, FitsLimit, FitsRegion, FitsSignal, FitsSpeed, FitsTurn};
-ghost use Rattle.network_file.specs.Formats.{IsFormat};
+ghost use Rattle.network_file.specs.Fitting.{FitsEntry, FitsCell, FitsConnector, FitsRecord, FitsRegion};
+ghost use Rattle.network_file.specs.Sound.{IsFormat};
 ghost use Rattle.network_file.specs.Taking.{taken_before};
 ghost use Rattle.network_file.specs.declared.limits.TheConstants.{MOST_BYTES};
 
@@ -14,9 +14,9 @@ use crate::entry::Entry;
 use crate::limits::MOST_BYTES;
 use no_memory::NoMemory;
 use record_fields::{RecordKind, RegionRecord, RegionTable};
-use signal_plan::{Demand, Limit, MOST_STEPS, Plan, Signal, Speed, Turn};
 use std::alloc::Global;
 use std::marker::Model;
+use step_plan::{CellRecord, MOST_STEPS, Plan};
 
 /// The network as far as its records have been read. At each record it keeps what every network keeps.
 #[derive(Drop)]
@@ -34,7 +34,7 @@ impl Model for NetDraft {
 
     ghost Value = { Draft };
 
-    ghost use Rattle.network_file.specs.Draft.{IsSoundDraft};
+    ghost use Rattle.network_file.specs.Sound.{IsSoundDraft};
 
     ghost view = { λ a. record { format = a.format; steps = a.steps; cells = a.cells; connectors = a.connectors; plan = a.plan.value; regions = a.regions } };
 
@@ -85,11 +85,7 @@ impl NetDraft {
             Entry::Connector(connector) => self
                 .near(connector.last_cell())
                 .add_connector(connector),
-            Entry::Signal(signal) => self.near(signal.cell).add_signal(signal),
-            Entry::Limit(limit) => self.near(limit.cell).add_limit(limit),
-            Entry::Demand(demand) => self.near(demand.cell).add_demand(demand),
-            Entry::Turn(turn) => self.near(turn.cell).add_turn(turn),
-            Entry::Speed(speed) => self.near(speed.cell).add_speed(speed),
+            Entry::Record(cell, one) => self.near(cell).add_record(cell, one),
             Entry::Region(region) => self.near(region.cell).add_region(region),
         }
     }
@@ -128,53 +124,13 @@ impl NetDraft {
         Ok(NetDraft { connectors, ..self })
     }
 
-    /// With the signal of a cell.
-    fn add_signal(self, signal: Signal) -> Result<NetDraft, NoMemory>
-        requires { FitsSignal self signal }
-        ensures { IfOk result (λ more. more ≡ with_entry self (says.Signal signal)) }
+    /// With one more record of the plan for a cell.
+    fn add_record(self, cell: u32, one: CellRecord) -> Result<NetDraft, NoMemory>
+        requires { FitsRecord self cell one }
+        ensures { IfOk result (λ more. more ≡ with_entry self (says.Record cell one)) }
     {
         let mut plan = self.plan;
-        plan.put_signal(signal)?;
-        Ok(NetDraft { plan, ..self })
-    }
-
-    /// With the capacity of a cell in each step of a range.
-    fn add_limit(self, limit: Limit) -> Result<NetDraft, NoMemory>
-        requires { FitsLimit self limit }
-        ensures { IfOk result (λ more. more ≡ with_entry self (says.Limit limit)) }
-    {
-        let mut plan = self.plan;
-        plan.put_limit(limit)?;
-        Ok(NetDraft { plan, ..self })
-    }
-
-    /// With what enters a gate in each step of a range.
-    fn add_demand(self, demand: Demand) -> Result<NetDraft, NoMemory>
-        requires { FitsDemand self demand }
-        ensures { IfOk result (λ more. more ≡ with_entry self (says.Demand demand)) }
-    {
-        let mut plan = self.plan;
-        plan.put_demand(demand)?;
-        Ok(NetDraft { plan, ..self })
-    }
-
-    /// With the turning shares of the diverge out of a cell in each step of a range.
-    fn add_turn(self, turn: Turn) -> Result<NetDraft, NoMemory>
-        requires { FitsTurn self turn }
-        ensures { IfOk result (λ more. more ≡ with_entry self (says.Turn turn)) }
-    {
-        let mut plan = self.plan;
-        plan.put_turn(turn)?;
-        Ok(NetDraft { plan, ..self })
-    }
-
-    /// With the speed in a road in each step of a range.
-    fn add_speed(self, speed: Speed) -> Result<NetDraft, NoMemory>
-        requires { FitsSpeed self speed }
-        ensures { IfOk result (λ more. more ≡ with_entry self (says.Speed speed)) }
-    {
-        let mut plan = self.plan;
-        plan.put_speed(speed)?;
+        plan.put(cell, one)?;
         Ok(NetDraft { plan, ..self })
     }
 

@@ -1,7 +1,7 @@
 use crate::cell::Cell;
 use crate::connector::Connector;
 use record_fields::RegionRecord;
-use signal_plan::{Demand, Limit, Signal, Speed, Turn};
+use step_plan::CellRecord;
 
 /// What a record of the file says, before a draft has taken it.
 #[derive(Drop)]
@@ -12,16 +12,8 @@ pub(crate) enum Entry {
     Cell(Cell, u64),
     /// A link, a merge or a diverge.
     Connector(Connector),
-    /// The signal of a cell.
-    Signal(Signal),
-    /// A capacity of a cell for some steps.
-    Limit(Limit),
-    /// What enters a gate in each of some steps.
-    Demand(Demand),
-    /// Turning shares of a diverge for some steps.
-    Turn(Turn),
-    /// A free-flow speed in a road for some steps.
-    Speed(Speed),
+    /// A cell's number, and a record of the plan for it.
+    Record(u32, CellRecord),
     /// The region of a cell.
     Region(RegionRecord),
 }

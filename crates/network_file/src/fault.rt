@@ -1,5 +1,5 @@
 ghost use Rattle.std.specs.Prelude.{◌≡◌};
-ghost use Rattle.network_file.specs.Faults.{refusal_at};
+ghost use Rattle.network_file.specs.Refusals.{refusal_at};
 
 use no_memory::Refused;
 use record_fields::Code;

@@ -1,9 +1,10 @@
 ghost use Rattle.std.specs.Prelude.{◌≡◌, ◌≤◌, IfSome};
-ghost use Rattle.network_file.specs.Formats.{IsFormat, format_of, most_records};
+ghost use Rattle.network_file.specs.Formats.{format_of, most_records};
+ghost use Rattle.network_file.specs.Sound.{IsFormat};
 
 use crate::limits::MOST_RECORDS_OF_FORMAT_1;
 use record_fields::FileRecord;
-use signal_plan::MOST_RECORDS;
+use step_plan::MOST_RECORDS;
 
 /// The format that a header names.
 #[tactic(auto, unfolding(crate::specs::Formats::format_of))]

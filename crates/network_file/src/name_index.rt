@@ -2,14 +2,14 @@ ghost use Rattle.std.specs.Prelude.{◌≡◌, ◌<◌, ◌≤◌, ◌∷◌, �
 ghost use Rattle.network_file.specs.Cells.{cell_named, name_at};
 ghost use Rattle.network_file.specs.NameIndexing.{IsIndexOf};
 ghost use Rattle.network_file.specs.declared.limits.TheConstants.{MOST_BYTES};
-ghost use Rattle.signal_plan.specs.declared.bounds.TheConstants.{MOST_RECORDS};
+ghost use Rattle.step_plan.specs.declared.bounds.TheConstants.{MOST_RECORDS};
 
 use crate::buckets::Buckets;
 use crate::cell::Cell;
 use crate::limits::MOST_BYTES;
 use no_memory::NoMemory;
-use signal_plan::MOST_RECORDS;
 use std::alloc::Global;
+use step_plan::MOST_RECORDS;
 
 /// The most cells of a chain in buckets by the seed that all files share. Names that weren't looked for fall into far
 /// shorter ones.

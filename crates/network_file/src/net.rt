@@ -8,9 +8,9 @@ use crate::fault::NetFault;
 use crate::limits::MOST_BYTES;
 use crate::reading::read_file;
 use no_memory::Refused;
-use signal_plan::Plan;
 use std::alloc::Global;
 use std::marker::Model;
+use step_plan::Plan;
 
 /// A road network with its plan. Its type keeps the rules of the model and the limits of the format
 /// (docs/MODEL.md, docs/FORMAT.md).
@@ -35,7 +35,7 @@ impl Model for Net {
 
     ghost Value = { Network };
 
-    ghost use Rattle.network_file.specs.Network.{IsNetwork};
+    ghost use Rattle.network_file.specs.Sound.{IsNetwork};
     ghost use Rattle.network_file.specs.NetView.{network_in};
 
     ghost view = { network_in };

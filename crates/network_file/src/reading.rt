@@ -1,6 +1,7 @@
 ghost use Rattle.std.specs.Prelude.{◌≡◌, ◌≤◌, Ok, IfErr, IfOk, length};
 ghost use Rattle.no_memory.specs.Answers.{Answers, IsRefusal};
-ghost use Rattle.record_fields.specs.FileRecords.{IsReading, file_records_of, records_left};
+ghost use Rattle.record_fields.specs.FileRecords.{file_records_of};
+ghost use Rattle.record_fields.specs.FileReading.{IsReading, records_left};
 ghost use Rattle.network_file.specs.Reading.{cutting_of_draft, network_in_all, network_of, read_records};
 
 use crate::cutting::has_no_gap;

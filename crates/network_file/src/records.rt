@@ -1,5 +1,5 @@
 ghost use Rattle.std.specs.Prelude.{◌≡◌, ◌<◌, ◌≤◌, IfOk, Some, length};
-ghost use Rattle.signal_plan.specs.Counts.{counts_of};
+ghost use Rattle.step_plan.specs.Counts.{counts_of};
 ghost use Rattle.no_memory.specs.Answers.{Answers, AnswersBy};
 ghost use Rattle.record_fields.specs.Fields.{field};
 ghost use Rattle.record_fields.specs.RecordKinds.{record_kind_of};
@@ -21,7 +21,7 @@ use record_fields::{
     Code, FileRecord, RecordKind, RegionRecord, amount_within, range_within, ratio, weights,
     whole_within,
 };
-use signal_plan::{Demand, Limit, MOST_STEPS, Signal, Speed, Turn};
+use step_plan::{CellRecord, Demand, Limit, MOST_STEPS, Signal, Speed, Turn};
 
 /// The draft with one more record of the file.
 #[inline(always)]
@@ -204,13 +204,13 @@ fn read_signal(draft: &NetDraft, row: &FileRecord) -> Result<Entry, Refused<Code
     let cycle = whole_within(1, MOST_STEPS, row.field(2))?;
     let offset = whole_within(0, cycle - 1, row.field(3))?;
     let (from, to) = range_within(cycle, row.field(4), row.field(5))?;
-    Ok(Entry::Signal(Signal {
-        cell,
+    let one = Signal {
         cycle,
         offset,
         from,
         to,
-    }))
+    };
+    Ok(Entry::Record(cell, CellRecord::Signal(one)))
 }
 
 #[tactic(auto, unfolding(crate::specs::Taking::take_limit))]
@@ -222,12 +222,8 @@ fn read_limit(draft: &NetDraft, row: &FileRecord) -> Result<Entry, Refused<Code>
     let cell = known_cell(&draft.cells, row.field(1))?;
     let (from, to) = range_within(MOST_STEPS, row.field(2), row.field(3))?;
     let capacity = amount_within(MOST_CAPACITY, row.field(4))?;
-    Ok(Entry::Limit(Limit {
-        cell,
-        from,
-        to,
-        capacity,
-    }))
+    let one = Limit { from, to, capacity };
+    Ok(Entry::Record(cell, CellRecord::Limit(one)))
 }
 
 #[tactic(auto, unfolding(crate::specs::Taking::take_demand))]
@@ -242,12 +238,8 @@ fn read_demand(draft: &NetDraft, row: &FileRecord) -> Result<Entry, Refused<Code
     }
     let (from, to) = range_within(MOST_STEPS, row.field(2), row.field(3))?;
     let amount = amount_within(MOST_PARTS, row.field(4))?;
-    Ok(Entry::Demand(Demand {
-        cell,
-        from,
-        to,
-        amount,
-    }))
+    let one = Demand { from, to, amount };
+    Ok(Entry::Record(cell, CellRecord::Demand(one)))
 }
 
 #[tactic(auto, unfolding(crate::specs::Taking::take_turn))]
@@ -263,13 +255,8 @@ fn read_turn(draft: &NetDraft, row: &FileRecord) -> Result<Entry, Refused<Code>>
     }
     let (from, to) = range_within(MOST_STEPS, row.field(2), row.field(3))?;
     let (b1, b2) = weights(MOST_RATIO, row.field(4), row.field(5))?;
-    Ok(Entry::Turn(Turn {
-        cell,
-        from,
-        to,
-        b1,
-        b2,
-    }))
+    let one = Turn { from, to, b1, b2 };
+    Ok(Entry::Record(cell, CellRecord::Turn(one)))
 }
 
 #[tactic(auto, unfolding(crate::specs::Taking::take_region))]
@@ -299,11 +286,6 @@ fn read_speed(draft: &NetDraft, row: &FileRecord) -> Result<Entry, Refused<Code>
     }
     let (from, to) = range_within(MOST_STEPS, row.field(2), row.field(3))?;
     let (num, den) = ratio(MOST_RATIO, row.field(4), row.field(5))?;
-    Ok(Entry::Speed(Speed {
-        cell,
-        from,
-        to,
-        num,
-        den,
-    }))
+    let one = Speed { from, to, num, den };
+    Ok(Entry::Record(cell, CellRecord::Speed(one)))
 }

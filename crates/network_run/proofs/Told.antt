@@ -12,13 +12,14 @@ use Rattle.region_step.specs.Start.{StartLists}
 use Rattle.border_rows.specs.Views.{times_in}
 use Rattle.border_rows.specs.declared.view.PublishedStep.{PublishedStep}
 use Rattle.region_slots.specs.Closing.{AreLogged}
-use Rattle.region_slots.specs.Moments.{AreTold, CutRun}
+use Rattle.region_slots.specs.Moments.{AreTold}
+use Rattle.region_slots.specs.CutRun.{CutRun}
 use Rattle.worker_claim.specs.Telling.{AreHelpersTold, AreMembersTold}
 use Rattle.worker_claim.specs.declared.helper.Helper.{Helper}
 use Rattle.worker_claim.specs.declared.member.Member.{Member}
 use Rattle.region_slots.proofs.Observed.{told-more, told-none}
-use Rattle.network_run.specs.Run.{HasLogged}
-use Rattle.network_run.specs.Telling.{AreFrom, HasTold, Telling}
+use Rattle.network_run.specs.Run.{HasLogged, AreFrom}
+use Rattle.network_run.specs.Telling.{HasTold, Telling}
 use Rattle.network_run.proofs.Crewing.{members_of}
 
 -- members that have made no turn

@@ -4,3 +4,5 @@ pub mod Near
 pub mod Rounds
 pub mod Run
 pub mod Telling
+pub mod ToldParts
+pub mod ToldShots

@@ -1,11 +1,12 @@
 -- What contracts see of a run.
-use Rattle.std.specs.Prelude.{◌≡◌, ℕ, ◌+◌, ◌<◌, ◌≤◌, List, replicate, slice_index}
+use Rattle.std.specs.Prelude.{◌≡◌, ℕ, ◌+◌, ◌<◌, ◌≤◌, List, replicate, slice_index, ◌⊎◌}
 use Rattle.std.specs.List.{Contains}
 use Rattle.region_cut.specs.Cuttings.{region_count}
 use Rattle.border_rows.specs.declared.view.PublishedStep.{PublishedStep}
 use Rattle.border_rows.specs.declared.view.Terms.{Terms}
 use Rattle.border_rows.specs.declared.view.View.{View}
 use Rattle.worker_claim.specs.Driving.{AllReach}
+use Rattle.worker_claim.specs.declared.member.Member.{Member}
 
 -- what it was opened with, and what its pass knows
 pub record RunValue : Type 0 where
@@ -28,3 +29,7 @@ AreWhereTheyCame run steps =
 abbrev pub IsLoggedWhereTheyCame : RunValue → Type 0
 IsLoggedWhereTheyCame run =
     (goal : ℕ) → AllReach (region_count run.terms.setup.now.chart.cut) goal run.knows → HasLogged (region_count run.terms.setup.now.chart.cut) run.terms.setup.now.start.steps goal run.knows.log
+
+-- each step of a log stands in another one or in that of a member
+abbrev pub AreFrom : List PublishedStep → List Member → (log : List PublishedStep) → Type 0
+AreFrom own members log = (entry : PublishedStep) → Contains log entry → Contains own entry ⊎ ((member : Member) × Contains members member × Contains member.pass.knows.log entry)

@@ -37,7 +37,7 @@ impl Crew {
     ghost use Rattle.region_slots.specs.FieldView.{IsPassOf};
     ghost use Rattle.network_run.specs.Crews.{HasJoined, HasLeft, IsReached, idle};
     ghost use Rattle.network_run.specs.Enlisted.{AreEnlisted};
-    ghost use Rattle.network_run.specs.Telling.{AreFrom};
+    ghost use Rattle.network_run.specs.Run.{AreFrom};
 
     /// A crew of so many workers for so many regions.
     pub(crate) fn new(alloc: Global, workers: u32, regions: u32) -> Result<Crew, NoMemory>

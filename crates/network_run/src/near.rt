@@ -23,8 +23,8 @@ const NEAR: u64 = 4;
 
 /// A room with a snapshot of the regions of a setup near the step `until`, or near the last step where that comes first. So
 /// many workers take all regions there from step 0. Then the snapshot is taken while they go on, so it has each region at
-/// that step or at most four steps past it. The observer is told of each step before `until`. What the setup has recorded
-/// is thrown away.
+/// that step or at most four steps past it. The observer is told of each step up to that last one, to which all regions are
+/// taken. What the setup has recorded is thrown away.
 pub fn room_near<R: Threads + Sync, W: Observer>(
     rt: &R,
     alloc: Global,
@@ -38,7 +38,7 @@ pub fn room_near<R: Threads + Sync, W: Observer>(
     ensures room { IfOk result (IsRoomFor setup.now.chart) }
     ensures snapshot { IfOk result (IsSnapshot setup.now.net setup.now.chart.cut (zero_start setup.now.net setup.now.chart.cut)) }
     ensures near { IfOk result (λ room. AreStepsBetween setup.now.net setup.now.chart.cut (min until setup.now.net.steps) (near_end setup.now.net until) room.steps) }
-    ensures told { IsOk result → HasTold (W.told_held observer.now) (W.told_freed observer.now) (cut_run setup.now) (min until setup.now.net.steps) }
+    ensures told { IsOk result → HasTold (W.told_held observer.now) (W.told_freed observer.now) (cut_run setup.now) (near_end setup.now.net until) }
 {
     let layout = setup.layout();
     let net = layout.net();
@@ -67,7 +67,7 @@ impl<'a> Run<'a> {
         requires in_time { from ≤ layout.now.net.steps }
         ensures terms { self.new.terms ≡ self.old.terms }
         ensures told { AreTold (W.told_held observer.now (cut_run self.old.terms.setup.now)) (W.told_freed observer.now (cut_run self.old.terms.setup.now)) self.old.knows.log self.new.knows.log }
-        ensures done { AllReach (region_count self.old.terms.setup.now.chart.cut) from self.new.knows }
+        ensures done { AllReach (region_count self.old.terms.setup.now.chart.cut) (near_end layout.now.net from) self.new.knows }
         ensures room { IsRoomFor self.old.terms.setup.now.chart room.new }
         ensures snapshot { IsSnapshot layout.now.net self.old.terms.setup.now.chart.cut (zero_start layout.now.net self.old.terms.setup.now.chart.cut) room.new }
         ensures near { AreStepsBetween layout.now.net self.old.terms.setup.now.chart.cut from (near_end layout.now.net from) room.new.steps }

@@ -14,7 +14,7 @@ const SWEEPS: u32 = 4096;
 const TRIES: u32 = 64;
 
 impl Crew {
-    ghost use Rattle.std.specs.Prelude.{◌≡◌, ◌⊎◌, ◌+◌, ◌-◌, ◌*◌, ◌^◌, ◌≤◌, ℕ, IsTrue, false, length, min, true};
+    ghost use Rattle.std.specs.Prelude.{◌≡◌, ◌⊎◌, ◌+◌, ◌-◌, ◌*◌, ◌^◌, ◌≤◌, ℕ, IsTrue, false, length, min};
     ghost use Rattle.region_cut.specs.Cuttings.{region_count};
     ghost use Rattle.snapshot.specs.Rooms.{IsRoomFor};
     ghost use Rattle.region_slots.specs.FieldView.{IsPassOf};
@@ -96,7 +96,7 @@ impl Crew {
         ensures many { length self.new.members ≡ length self.old.members }
         ensures enlisted { AreEnlisted field.now goal self.new.members }
         ensures told { AreMembersTold (W.told_held observer.now (cut_run field.now.terms.setup.now)) (W.told_freed observer.now (cut_run field.now.terms.setup.now)) self.old.members self.new.members }
-        ensures told_shot { W.told_watched observer.now (cut_run field.now.terms.setup.now) watcher.old.knows.seen false × W.told_watched observer.now (cut_run field.now.terms.setup.now) watcher.new.knows.seen true }
+        ensures told_shot { W.told_watching observer.now (cut_run field.now.terms.setup.now) watcher.old.knows.seen × W.told_watched observer.now (cut_run field.now.terms.setup.now) watcher.new.knows.seen result }
         ensures rounds { (rounds : ℕ) × AreRounds field.now rounds 2 self.old.members self.new.members }
     {
         let shot = self.watch_round(rt, field, watcher, room, goal, observer);
@@ -127,7 +127,7 @@ impl Crew {
         ensures many { length self.new.members ≡ length self.old.members }
         ensures enlisted { AreEnlisted field.now goal self.new.members }
         ensures told { AreMembersTold (W.told_held observer.now (cut_run field.now.terms.setup.now)) (W.told_freed observer.now (cut_run field.now.terms.setup.now)) self.old.members self.new.members }
-        ensures told_shot { W.told_watched observer.now (cut_run field.now.terms.setup.now) watcher.old.knows.seen false × W.told_watched observer.now (cut_run field.now.terms.setup.now) watcher.new.knows.seen true }
+        ensures told_shot { W.told_watching observer.now (cut_run field.now.terms.setup.now) watcher.old.knows.seen × W.told_watched observer.now (cut_run field.now.terms.setup.now) watcher.new.knows.seen result }
         ensures round { AreRounds field.now 1 1 self.old.members self.new.members }
     {
         crew_watch_hints(

@@ -33,13 +33,14 @@ impl<'a> Model for Run<'a> {
 }
 
 impl<'a> Run<'a> {
-    ghost use Rattle.std.specs.Prelude.{◌≡◌, ◌+◌, ◌<◌, ◌≤◌, ℕ, List, IfOk, false, max, slice_index, true};
+    ghost use Rattle.std.specs.Prelude.{◌≡◌, ◌+◌, ◌<◌, ◌≤◌, ℕ, List, IfOk, max, slice_index};
     ghost use Rattle.region_cut.specs.Cuttings.{region_count};
     ghost use Rattle.snapshot.specs.Rooms.{IsRoomFor};
     ghost use Rattle.snapshot.specs.Snapshots.{IsSnapshot};
     ghost use Rattle.region_slots.specs.Opening.{first_view};
     ghost use Rattle.worker_claim.specs.Driving.{AllReach};
     ghost use Rattle.region_slots.specs.Moments.{AreTold, cut_run};
+    ghost use Rattle.region_slots.specs.declared.shot.Shot.TheVariants.{Taken};
     ghost use Rattle.network_run.specs.Run.{AreWhereTheyCame, IsLoggedWhereTheyCame};
     ghost use Rattle.region_step.specs.Regions.{HaveCome};
 
@@ -96,9 +97,9 @@ impl<'a> Run<'a> {
         ensures told { AreTold (W.told_held observer.now (cut_run self.old.terms.setup.now)) (W.told_freed observer.now (cut_run self.old.terms.setup.now)) self.old.knows.log self.new.knows.log }
         ensures done { AllReach (region_count self.old.terms.setup.now.chart.cut) goal self.new.knows }
         ensures snapshot { IsSnapshot self.old.terms.setup.now.net self.old.terms.setup.now.chart.cut self.old.terms.setup.now.start room.new }
-        ensures told_before { (before : List ℕ) × W.told_watched observer.now (cut_run self.old.terms.setup.now) before false
+        ensures told_before { (before : List ℕ) × W.told_watching observer.now (cut_run self.old.terms.setup.now) before
             × ((r : ℕ) → r < region_count self.old.terms.setup.now.chart.cut → (slice_index self.old.knows.seen r ≤ slice_index before r) × (slice_index before r ≤ slice_index room.new.steps r)) }
-        ensures told_after { W.told_watched observer.now (cut_run self.old.terms.setup.now) room.new.steps true }
+        ensures told_after { W.told_watched observer.now (cut_run self.old.terms.setup.now) room.new.steps Taken }
         ensures between { (r : ℕ) → r < region_count self.old.terms.setup.now.chart.cut → (slice_index self.old.knows.seen r ≤ slice_index room.new.steps r)
             × (slice_index room.new.steps r ≤ max (slice_index self.old.terms.setup.now.start.steps r) goal) }
     {

@@ -4,7 +4,7 @@ ghost use Rattle.region_slots.specs.Moments.{cut_run};
 ghost use Rattle.network_run.specs.Telling.{HasTold, zero_run};
 ghost use Rattle.region_step.specs.Regions.{AreAt, AreAtLast};
 ghost use Rattle.region_step.specs.Setup.{zero_setup};
-ghost use Rattle.region_step.specs.Start.{IsTrueStart};
+ghost use Rattle.region_step.specs.Starting.{IsTrueStart};
 
 use crate::run::Run;
 use no_memory::NoMemory;

@@ -3,10 +3,10 @@ ghost use Rattle.region_cut.specs.Cuttings.{region_count};
 ghost use Rattle.region_step.specs.Regions.{AreAtLast};
 ghost use Rattle.region_step.specs.Start.{zero_start};
 ghost use Rattle.snapshot.specs.Rooms.{IsRoomFor};
-ghost use Rattle.shot_lines.specs.Shots.{AreShots};
 ghost use Rattle.worker_claim.specs.Driving.{AllReach};
 ghost use Rattle.region_slots.specs.Moments.{AreTold, cut_run};
-ghost use Rattle.network_run.specs.Telling.{HasTold, HasToldShots};
+ghost use Rattle.network_run.specs.Telling.{HasTold};
+ghost use Rattle.network_run.specs.ToldShots.{AreToldShots};
 
 use crate::run::Run;
 use no_memory::NoMemory;
@@ -44,9 +44,8 @@ pub fn watched_regions<'n, R: Threads + Sync, W: Observer>(
     requires shots { (1 ≤ shots) × (shots + 1 < 2 ^ 32) }
     ensures setup { IfOk result (λ watched. watched.regions.setup ≡ setup.entry) }
     ensures last { IfOk result (λ watched. AreAtLast watched.regions) }
-    ensures shots { IfOk result (λ watched. AreShots setup.entry.net setup.entry.chart.cut shots watched.shots.items) }
+    ensures shots { IfOk result (λ watched. AreToldShots (W.told_watching observer.now) (W.told_watched observer.now) (cut_run setup.entry) shots watched.shots.items) }
     ensures told { IsOk result → HasTold (W.told_held observer.now) (W.told_freed observer.now) (cut_run setup.entry) setup.entry.net.steps }
-    ensures told_shots { IsOk result → HasToldShots (W.told_watched observer.now) (cut_run setup.entry) shots }
 {
     let mut room = ShotRoom::new(alloc, setup.layout())?;
     let mut run = Run::open(alloc, &setup, workers)?;
@@ -79,9 +78,8 @@ impl<'a> Run<'a> {
         ensures terms { IsOk result → self.new.terms ≡ self.old.terms }
         ensures reach { IsOk result → self.new.knows.reach ≤ layout.now.net.steps }
         ensures told { IsOk result → AreTold (W.told_held observer.now (cut_run self.old.terms.setup.now)) (W.told_freed observer.now (cut_run self.old.terms.setup.now)) self.old.knows.log self.new.knows.log }
-        ensures told_shots { IsOk result → HasToldShots (W.told_watched observer.now) (cut_run self.old.terms.setup.now) shots }
         ensures last { IsOk result → AllReach (region_count layout.now.chart.cut) layout.now.net.steps self.new.knows }
-        ensures shots { IsOk result → AreShots layout.now.net layout.now.chart.cut shots text.new.items }
+        ensures shots { IsOk result → AreToldShots (W.told_watching observer.now) (W.told_watched observer.now) (cut_run self.old.terms.setup.now) shots text.new.items }
     {
         let net = layout.net();
         let _steps = net.steps;

@@ -2,7 +2,8 @@
 use Rattle.std.specs.Prelude.{Option, Some, None}
 use Rattle.std.proofs.Common.{ℕ, ◌≤◌, ◌+◌, ◌-◌, ◌*◌, ◌/◌, Bool, true, false, arith}
 use Rattle.ordinary_link.specs.declared.space.Room.{Room}
-use Rattle.ordinary_link.specs.Flows.{sending_flow, receiving_flow, IsRoomHolding}
+use Rattle.ordinary_link.specs.Flows.{sending_flow, receiving_flow}
+use Rattle.ordinary_link.specs.Rooms.{IsRoomHolding}
 
 pub sending_flow-le-held : (n q : ℕ) (green : Bool) → sending_flow n q green ≤ n
 sending_flow-le-held n q true = omega arith

@@ -1,6 +1,5 @@
 -- What a cell can send and receive in a step.
-use Rattle.std.specs.Prelude.{ℕ, ◌≤◌, ◌-◌, ◌*◌, ◌/◌, Bool, if◌then◌else◌, min, Option, Some, None}
-use Rattle.fixed_flow.specs.Limits.{most_ratio}
+use Rattle.std.specs.Prelude.{ℕ, ◌-◌, ◌*◌, ◌/◌, Bool, if◌then◌else◌, min, Option, Some, None}
 use Rattle.ordinary_link.specs.declared.space.Room.{Room}
 
 -- S: what a cell that holds `n` parts under the capacity `q` can send
@@ -11,10 +10,3 @@ sending_flow n q green = if green then min q n else 0
 abbrev pub receiving_flow : (n q : ℕ) → Option Room → ℕ
 receiving_flow n q None = q
 receiving_flow n q (Some room) = min q (room.num * (room.most - n) / room.den)
-
--- the road can hold `n` parts, and its ratio A/B has 1 ≤ A ≤ B ≤ 1,000
-pub record IsRoomHolding (n : ℕ) (room : Room) : Type 0 where
-  pub within : n ≤ room.most
-  pub positive : 1 ≤ room.num
-  pub ratio : room.num ≤ room.den
-  pub small : room.den ≤ most_ratio

@@ -1,3 +1,4 @@
 pub mod Flows
+pub mod Rooms
 pub mod Row
 pub mod Waiting

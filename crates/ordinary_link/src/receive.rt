@@ -1,6 +1,7 @@
 ghost use Rattle.std.specs.Prelude.{◌≡◌, ◌≤◌, ◌+◌};
 ghost use Rattle.std.specs.Option.{ForSome};
-ghost use Rattle.ordinary_link.specs.Flows.{receiving_flow, IsRoomHolding};
+ghost use Rattle.ordinary_link.specs.Flows.{receiving_flow};
+ghost use Rattle.ordinary_link.specs.Rooms.{IsRoomHolding};
 
 use crate::space::Room;
 use fixed_flow::MOST_PARTS;

@@ -1,5 +1,5 @@
 ghost use Rattle.std.specs.Prelude.{◌≡◌, ◌≤◌, ◌+◌, ◌-◌, ◌*◌, ◌/◌};
-ghost use Rattle.ordinary_link.specs.Flows.{IsRoomHolding};
+ghost use Rattle.ordinary_link.specs.Rooms.{IsRoomHolding};
 
 use fixed_flow::MOST_PARTS;
 

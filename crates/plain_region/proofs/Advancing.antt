@@ -6,10 +6,12 @@ use Rattle.std.proofs.lemmas.Bool.{cases_Bool}
 use Rattle.std.proofs.lemmas.List.{length-map, length-replicate}
 use Rattle.std.proofs.lemmas.List.Elements.{Contains-get_or}
 use Rattle.network_file.specs.Cells.{is_gate_at}
-use Rattle.network_file.specs.Network.{IsNetwork, Network}
+use Rattle.network_file.specs.Network.{Network}
+use Rattle.network_file.specs.Sound.{IsNetwork}
 use Rattle.flow_model.specs.Flows.{inflow, outflow}
 use Rattle.flow_model.specs.Rows.{moved_row, next_row}
-use Rattle.flow_model.specs.State.{row_at, rows_after}
+use Rattle.flow_model.specs.State.{row_at}
+use Rattle.flow_model.specs.Stepping.{rows_after}
 use Rattle.flow_model.specs.declared.row.Row.{Row}
 use Rattle.flow_model.proofs.Bounds.{changes, moved_row-in_bounds, small}
 use Rattle.flow_model.proofs.Flows.{inflow-gate}

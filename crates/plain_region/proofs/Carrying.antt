@@ -6,7 +6,8 @@ use Rattle.std.proofs.lemmas.Bool.{cases_Bool, cases_lt}
 use Rattle.std.proofs.lemmas.List.{get_or-map, get_or_default, length-map}
 use Rattle.std.proofs.lemmas.List.Elements.{Contains-get_or}
 use Rattle.std.proofs.lemmas.List.Folds.{Any-from_list_any}
-use Rattle.network_file.specs.Connectors.{connector_at, leads_into, leads_out_of, touches}
+use Rattle.network_file.specs.Connectors.{leads_into, leads_out_of, touches}
+use Rattle.network_file.specs.Numbered.{connector_at}
 use Rattle.network_file.specs.Network.{Network}
 use Rattle.network_file.specs.declared.connector.Connector.{Connector}
 use Rattle.network_file.specs.declared.connector.Connector.TheVariants.{Link}

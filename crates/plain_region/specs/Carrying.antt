@@ -1,10 +1,12 @@
 -- What a region's connectors carry in a step, and what that moves into and out of its own cells.
 use Rattle.std.specs.Prelude.{◌≡◌, ⊤, ℕ, ◌<◌, ◌≤◌, ◌+◌, ◌^◌, All, true, false, List, [], ◌∷◌, Option, None, length, map, slice_index, slice_index_or, slice_set, unwrap_or, if◌then◌else◌}
 use Rattle.std.specs.List.{Contains, range_with_len}
-use Rattle.signal_plan.specs.Demand.{demand_at}
+use Rattle.step_plan.specs.Demand.{demand_at}
 use Rattle.network_file.specs.Cells.{is_gate_at}
-use Rattle.network_file.specs.Connectors.{cells_of, connector_at, touches}
-use Rattle.network_file.specs.Network.{IsNetwork, Network}
+use Rattle.network_file.specs.Connectors.{cells_of, touches}
+use Rattle.network_file.specs.Numbered.{connector_at}
+use Rattle.network_file.specs.Network.{Network}
+use Rattle.network_file.specs.Sound.{IsNetwork}
 use Rattle.network_file.specs.declared.connector.Connector.{Connector}
 use Rattle.network_file.specs.declared.connector.Connector.TheVariants.{Link, Merge, Diverge}
 use Rattle.flow_model.specs.Bounds.{AreHeldInBounds, IsHeldInBounds, IsRowInBounds}

@@ -1,6 +1,6 @@
 -- The connectors of a plain region, and where it finds their cells.
 use Rattle.std.specs.Prelude.{◌≡◌, ℕ, ◌<◌, All, List, length, map, slice_index, slice_index_or}
-use Rattle.network_file.specs.Connectors.{connector_at}
+use Rattle.network_file.specs.Numbered.{connector_at}
 use Rattle.network_file.specs.Network.{Network}
 use Rattle.region_cut.specs.ConnectorCells.{three_cells}
 use Rattle.plain_region.specs.declared.cell_ref.CellRef.{CellRef}

@@ -1,5 +1,5 @@
 ghost use Rattle.std.specs.Prelude.{◌≡◌, ◌<◌, ℕ, length, map, slice_index};
-ghost use Rattle.network_file.specs.Connectors.{connector_at};
+ghost use Rattle.network_file.specs.Numbered.{connector_at};
 ghost use Rattle.region_step.specs.Advance.{known};
 ghost use Rattle.plain_region.specs.Carrying.{CanCarry, IsAmong, IsChangeOf, IsScene, carried_of, change_at, moved_by, with_entering, with_leaving};
 

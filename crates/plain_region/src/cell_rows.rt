@@ -1,5 +1,6 @@
 ghost use Rattle.std.specs.Prelude.{◌≡◌, ◌<◌, All, IfOk, length, map, slice_index};
-ghost use Rattle.flow_model.specs.State.{occupancy, row_at, rows_after};
+ghost use Rattle.flow_model.specs.State.{occupancy, row_at};
+ghost use Rattle.flow_model.specs.Stepping.{rows_after};
 
 use crate::carry::carry_all;
 use crate::change::Change;

@@ -1,5 +1,5 @@
 ghost use Rattle.std.specs.Prelude.{◌≡◌, ◌+◌, ◌≤◌, ◌++◌, [], IsTrue, OnOk, if◌then◌else◌, length, vec_capacity};
-ghost use Rattle.region_step.specs.Recording.{notes_of};
+ghost use Rattle.region_step.specs.Noting.{notes_of};
 
 use flow_model::Row;
 use no_memory::NoMemory;

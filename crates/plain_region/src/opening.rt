@@ -1,6 +1,6 @@
 ghost use Rattle.std.specs.Prelude.{◌≡◌, ◌<◌, [], All, IfOk, if◌then◌else◌, length, map, slice_index};
 ghost use Rattle.flow_model.specs.State.{row_at};
-ghost use Rattle.region_step.specs.Recording.{notes_of};
+ghost use Rattle.region_step.specs.Noting.{notes_of};
 ghost use Rattle.plain_region.specs.Opening.{earlier_row};
 
 use crate::notes::{make_room, note_step};

@@ -56,7 +56,7 @@ impl Model for PlainRegion {
 impl PlainRegion {
     ghost use Rattle.region_step.specs.Advance.{HasHaloPut, HasRowsInBounds, advanced};
     ghost use Rattle.region_step.specs.Laws.{grid_state};
-    ghost use Rattle.region_step.specs.Start.{Fits};
+    ghost use Rattle.region_step.specs.Starting.{Fits};
     ghost use Rattle.plain_region.specs.Opened.{IsIn, IsOf};
 
     /// Region `r` at the step at which it starts. It is recorded at each step that `every` divides and at the last one,

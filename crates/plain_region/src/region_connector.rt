@@ -1,6 +1,6 @@
 ghost use Rattle.std.specs.Prelude.{◌≡◌, ◌<◌, ◌^◌, All, IfOk, length};
 ghost use Rattle.std.specs.List.Sorted.{IsStrictlyIncreasing};
-ghost use Rattle.network_file.specs.Connectors.{connector_at};
+ghost use Rattle.network_file.specs.Numbered.{connector_at};
 ghost use Rattle.plain_region.specs.RegionConnectors.{AreRegionConnectors, IsRefOf, IsRegionConnector};
 ghost use Rattle.region_body.specs.Joining.{AreKnown, IsKnown};
 

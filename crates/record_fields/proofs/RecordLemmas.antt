@@ -9,7 +9,8 @@ use Rattle.csv.specs.declared.reader.Reader.{Reader}
 use Rattle.csv.proofs.ReadFacts.{rows-end, rows-more}
 use Rattle.csv.specs.declared.parser.State.{State}
 use Rattle.csv.specs.declared.parser.State.TheVariants as st
-use Rattle.record_fields.specs.FileRecords.{IsReading, bytes_of, config, records_left, file_records_of}
+use Rattle.record_fields.specs.FileRecords.{config, file_records_of}
+use Rattle.record_fields.specs.FileReading.{IsReading, bytes_of, records_left}
 
 -- a byte that ends a record leaves no record open
 closed : (s : State) (c : ℕ) → is_end (step config s c).1 ≡ true → ends_at_end (step config s c).0 ≡ false

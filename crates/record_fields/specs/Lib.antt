@@ -2,6 +2,7 @@ pub mod CellName
 pub mod Checks
 pub mod FaultCode
 pub mod Fields
+pub mod FileReading
 pub mod FileRecords
 pub mod Marks
 pub mod RecordKinds

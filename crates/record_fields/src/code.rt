@@ -1,5 +1,5 @@
 ghost use Rattle.std.specs.Prelude.{◌≡◌};
-ghost use Rattle.record_fields.specs.FaultCode.{code_name, code_number};
+ghost use Rattle.record_fields.specs.FaultCode.{code_told};
 
 use no_memory::Refused;
 
@@ -45,7 +45,7 @@ pub enum Code {
 impl Code {
     /// The number of the fault as it is printed, from 1.
     pub fn number(self) -> u32
-        ensures { result ≡ code_number self }
+        ensures { result ≡ (code_told self).0 }
     {
         match self {
             Code::NoHeader => 1,
@@ -70,7 +70,7 @@ impl Code {
 
     /// The name of the fault as it is printed.
     pub fn name(self) -> &'static str
-        ensures { result.now ≡ code_name self }
+        ensures { result.now ≡ (code_told self).1 }
     {
         match self {
             Code::NoHeader => "NoHeader",

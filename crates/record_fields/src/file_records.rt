@@ -1,7 +1,8 @@
 ghost use Rattle.std.specs.Prelude.{◌≡◌, ◌∷◌, [], Some, IfOk, true, false};
 ghost use Rattle.csv.specs.Records.{fields_of};
 ghost use Rattle.csv.specs.Reading.{error_kind, stops_reader};
-ghost use Rattle.record_fields.specs.FileRecords.{IsReading, records_left, file_records_of};
+ghost use Rattle.record_fields.specs.FileRecords.{file_records_of};
+ghost use Rattle.record_fields.specs.FileReading.{IsReading, records_left};
 
 use crate::file_record::FileRecord;
 use csv::{ByteRecord, Error, ErrorKind, Reader, ReaderBuilder};

@@ -1,4 +1,4 @@
-ghost use Rattle.std.specs.Prelude.{◌≡◌, ◌||◌, ◌==◌, ℕ, false, OnOk};
+ghost use Rattle.std.specs.Prelude.{◌≡◌, ◌||◌, ◌==◌, ℕ, false, OnErr, OnOk};
 ghost use Rattle.record_fields.specs.Marks.{is_marked};
 
 use no_memory::NoMemory;
@@ -40,7 +40,8 @@ impl Marks {
 
     /// Puts one more number into the set, where memory for a mark of each number up to it is given.
     pub fn mark(&mut self, i: u32) -> Result<(), NoMemory>
-        ensures { OnOk result ((j : ℕ) → is_marked self.new j ≡ ((j == i) || is_marked self.old j)) }
+        ensures marked { OnOk result ((j : ℕ) → is_marked self.new j ≡ ((j == i) || is_marked self.old j)) }
+        ensures unchanged { OnErr result (self.new ≡ self.old) }
     {
         let at = i as usize;
         if self.marks.len() <= at {

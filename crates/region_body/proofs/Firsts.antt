@@ -4,16 +4,17 @@ use Rattle.std.proofs.Common.{◌≡◌, ℕ, ◌<◌, ◌≤◌, inl, inr, true
 use Rattle.std.proofs.lemmas.Bool.{cases_Bool}
 use Rattle.std.proofs.lemmas.List.{ext_get_or, get_or-map, length-map}
 use Rattle.network_file.specs.Cells.{is_exit_at}
-use Rattle.network_file.specs.Network.{IsNetwork, Network}
+use Rattle.network_file.specs.Network.{Network}
+use Rattle.network_file.specs.Sound.{IsNetwork}
 use Rattle.flow_model.specs.Bounds.{IsHeldInBounds, IsRowInBounds}
 use Rattle.flow_model.specs.Limits.{room_at}
 use Rattle.flow_model.specs.Rows.{empty_row}
 use Rattle.flow_model.specs.State.{row_at}
 use Rattle.flow_model.specs.declared.row.Row.{Row}
 use Rattle.flow_model.proofs.Bounds.{small}
-use Rattle.region_body.specs.CellStates.{cell_state_at}
+use Rattle.cell_sweep.specs.CellStates.{cell_state_at}
 use Rattle.connector_flow.specs.Space.{IsSpaceOf}
-use Rattle.region_body.specs.declared.cell_state.CellState.{CellState}
+use Rattle.cell_sweep.specs.declared.cell_state.CellState.{CellState}
 use Rattle.region_body.proofs.LinkFlows.{held-fits}
 use Rattle.region_body.specs.First.{AreConstantsOf, IsFirst}
 use Rattle.region_body.specs.Rows.{AreSettled, IsOf, constants_at, row_of, rows_of}

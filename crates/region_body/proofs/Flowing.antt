@@ -4,12 +4,14 @@ use Rattle.std.specs.List.{Contains, filter, list_any, range_with_len, sum_by}
 use Rattle.std.proofs.Common.{◌≡◌, ℕ, zero, suc, ◌+◌, ◌<◌, inl, inr, true, false, List, [], ◌∷◌, length, get_or, refl, sym, ap, ◌∙◌, subst, add-one, arith}
 use Rattle.std.proofs.lemmas.Bool.{cases_Bool, eq-eqb, eqb-true}
 use Rattle.std.proofs.lemmas.List.Elements.{Contains-get_or}
-use Rattle.signal_plan.specs.Capacity.{capacity_at}
-use Rattle.signal_plan.specs.Speeds.{arriving, speed_at}
-use Rattle.signal_plan.proofs.Sums.{sum_by_places, sum_by-zero}
+use Rattle.step_plan.specs.Capacity.{capacity_at}
+use Rattle.step_plan.specs.Speeds.{arriving, speed_at}
+use Rattle.step_plan.proofs.Sums.{sum_by_places, sum_by-zero}
 use Rattle.network_file.specs.Cells.{is_exit_at, is_gate_at}
-use Rattle.network_file.specs.Connectors.{connector_at, leads_into, leads_out_of}
-use Rattle.network_file.specs.Network.{IsNetwork, IsSoundConnector, Network}
+use Rattle.network_file.specs.Connectors.{leads_into, leads_out_of}
+use Rattle.network_file.specs.Numbered.{connector_at}
+use Rattle.network_file.specs.Network.{Network}
+use Rattle.network_file.specs.Sound.{IsNetwork, IsSoundConnector}
 use Rattle.network_file.specs.declared.connector.Connector.{Connector}
 use Rattle.network_file.specs.declared.connector.Connector.TheVariants.{Link}
 use Rattle.flow_model.specs.Flows.{entering, flow_of, inflow, leaving, outflow}
@@ -19,9 +21,9 @@ use Rattle.network_file.proofs.NetworkFacts.{connector_at-sound}
 use Rattle.flow_model.proofs.CellFlows.{inflow-by, outflow-by}
 use Rattle.flow_model.proofs.Connectors.{entering-other, leaving-other}
 use Rattle.flow_model.proofs.Locality.{leads_into-touches, leads_out_of-touches}
-use Rattle.region_body.specs.CellStates.{link_in, link_out, cell_state_at}
+use Rattle.cell_sweep.specs.CellStates.{link_in, link_out, cell_state_at}
 use Rattle.connector_flow.specs.Space.{HasSpace, IsSpaceOf}
-use Rattle.region_body.specs.declared.cell_state.CellState.{CellState}
+use Rattle.cell_sweep.specs.declared.cell_state.CellState.{CellState}
 use Rattle.timelines.specs.Links.{most_between}
 use Rattle.region_cut.proofs.Anys.{found, finds, not_false}
 use Rattle.region_cut.proofs.Ranges.{Contains-filter_range, filter_range-Contains, range-Contains}
@@ -79,15 +81,6 @@ join net cells connectors p around joined =
           (range-Contains (length cells) p (omega arith)) some.2;
       at = at;
     }
-
--- nothing is joined to an exit
-pub joined-sends : (net : Network) (cells connectors : List ℕ) (p : ℕ) → IsNetwork net → AreAround net cells connectors → is_joined net cells connectors p ≡ true →
-    is_exit_at net.cells (slice_index cells p) ≡ false
-joined-sends net cells connectors p sound around joined =
-    let at = join net cells connectors p around joined in
-    let is : IsSoundConnector net.cells (Link (slice_index cells p) (slice_index cells (p + 1))) =
-    subst (IsSoundConnector net.cells) at.at.is (connector_at-sound net at.number sound at.there) in
-    (is.up 0 0 (omega arith)).1
 
 joined-by : (net : Network) (cells connectors : List ℕ) (p k : ℕ) (around : AreAround net cells connectors) → k < length net.connectors →
     around.touched k ≡ true → is_link cells p (connector_at net.connectors k) ≡ true → is_joined net cells connectors p ≡ true

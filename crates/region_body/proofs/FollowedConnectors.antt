@@ -3,7 +3,9 @@ use Rattle.std.specs.Prelude.{All, map}
 use Rattle.std.proofs.Common.{◌≡◌, ℕ, ◌+◌, ◌<◌, ◌≤◌, inl, inr, List, length, get_or, set, refl, ◌∙◌, arith}
 use Rattle.std.proofs.lemmas.Bool.{cases_eq}
 use Rattle.std.proofs.lemmas.List.{get_or-set_other, get_or-set_same, length-set}
+use Rattle.network_file.specs.Numbered.{connector_at}
 use Rattle.network_file.specs.Network.{Network}
+use Rattle.connector_flow.specs.Following.{given_in}
 use Rattle.region_body.specs.Carrying.{AreConnectorsAmong, AreConnectorsFollowed, IsConnectorAmong, IsConnectorFollowed}
 use Rattle.region_body.specs.declared.followed_connector.FollowedConnector.{FollowedConnector}
 use Rattle.region_body.proofs.SameMaps.{map-same}
@@ -57,7 +59,7 @@ connector-followed net cells halo t old new connector carried = record {
   refs = rw (carried.number, carried.cells) connector.refs;
   timeline = rw carried.number (record {
     rule = carried.rule ∙ connector.timeline.rule;
-    flow = λ s n before held. carried.flow s n ∙ connector.timeline.flow s n before held;
+    flow = λ s n before held. carried.flow s (given_in net s (connector_at net.connectors old.number) n) ∙ connector.timeline.flow s n before held;
   });
 }
 

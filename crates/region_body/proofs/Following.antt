@@ -4,8 +4,8 @@ use Rattle.std.proofs.Common.{◌≡◌, ◌≢◌, ℕ, ◌+◌, ◌<◌, ◌�
 use Rattle.std.proofs.Math.ListN.{get_or, set, length-set}
 use Rattle.std.proofs.lemmas.Bool.{cases_eq}
 use Rattle.std.proofs.lemmas.List.{get_or-set_same, get_or-set_other}
-use Rattle.region_body.specs.CellStates.{no_state, cell_state_at}
-use Rattle.region_body.specs.declared.cell_state.CellState.{CellState}
+use Rattle.cell_sweep.specs.CellStates.{no_state, cell_state_at}
+use Rattle.cell_sweep.specs.declared.cell_state.CellState.{CellState}
 use Rattle.timelines.specs.Links.{most_at}
 use Rattle.region_body.specs.FollowedLinks.{AreFollowed, IsChanged, IsTimeline, IsFollowed, IsLinkThere, IsUnchanged}
 use Rattle.region_body.specs.declared.followed_link.FollowedLink.{FollowedLink}

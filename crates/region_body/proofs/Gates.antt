@@ -4,8 +4,8 @@ use Rattle.std.specs.List.{sum_by}
 use Rattle.std.proofs.Common.{◌≡◌, ℕ, ◌+◌, ◌<◌, ◌≤◌, ◌==◌, if◌then◌else◌, inl, inr, List, length, get_or, set, refl, sym, ap, ◌∙◌, arith}
 use Rattle.std.proofs.lemmas.Bool.{cases_eq}
 use Rattle.std.proofs.lemmas.List.{get_or-set_other, get_or-set_same, length-set}
-use Rattle.signal_plan.proofs.Sums.{sum_by-same}
-use Rattle.signal_plan.specs.Demand.{demand_at}
+use Rattle.step_plan.proofs.Sums.{sum_by-same}
+use Rattle.step_plan.specs.Demand.{demand_at}
 use Rattle.network_file.specs.Network.{Network}
 use Rattle.region_body.specs.Gates.{AreAsked, AreGatesKept, IsGateOf, IsGateKept, demand_into}
 use Rattle.region_body.proofs.Moves.{demand_for}

@@ -4,9 +4,9 @@ use Rattle.std.proofs.Common.{◌≡◌, ◌≢◌, ℕ, ◌+◌, ◌<◌, ◌�
 use Rattle.std.proofs.lemmas.Bool.{cases_eq}
 use Rattle.std.proofs.lemmas.List.{get_or-set_other, get_or-set_same, get_or_append_left, get_or_push, length-set, length_push}
 use Rattle.std.proofs.lemmas.List.Elements.{All-push}
-use Rattle.signal_plan.specs.Records.{PlanRecords}
-use Rattle.region_body.specs.CellStates.{no_state, cell_state_at}
-use Rattle.region_body.specs.declared.cell_state.CellState.{CellState}
+use Rattle.step_plan.specs.Records.{PlanRecords}
+use Rattle.cell_sweep.specs.CellStates.{no_state, cell_state_at}
+use Rattle.cell_sweep.specs.declared.cell_state.CellState.{CellState}
 use Rattle.timelines.specs.Timelines.{IsSteady}
 use Rattle.timelines.specs.Links.{LinkValues, most_at, most_between}
 use Rattle.region_body.specs.FollowedLinks.{AreFollowed, IsTimeline, IsFollowed}

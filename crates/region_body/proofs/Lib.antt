@@ -1,9 +1,5 @@
-pub mod Neighbours
-pub mod Sets
-pub mod AtSpeeds
 pub mod SpeedTimelines
-pub mod ZonesMade
-pub mod Swept
+pub mod SpeedsNow
 pub mod LinkFlows
 pub mod Following
 pub mod Shares

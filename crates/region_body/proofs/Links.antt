@@ -8,14 +8,14 @@ use Rattle.ordinary_link.specs.Flows.{receiving_flow}
 use Rattle.network_file.specs.Network.{Network}
 use Rattle.network_file.specs.declared.connector.Connector.{Connector}
 use Rattle.network_file.specs.declared.connector.Connector.TheVariants.{Link, Merge, Diverge}
-use Rattle.signal_plan.specs.Capacity.{capacity_at}
-use Rattle.signal_plan.specs.Green.{green_at}
-use Rattle.signal_plan.specs.Speeds.{arriving, speed_at}
+use Rattle.step_plan.specs.Capacity.{capacity_at}
+use Rattle.step_plan.specs.Green.{green_at}
+use Rattle.step_plan.specs.Speeds.{arriving, speed_at}
 use Rattle.flow_model.specs.Flows.{entering, flow_of, leaving}
 use Rattle.flow_model.specs.Limits.{receiving_at, room_at, sending_at}
-use Rattle.region_body.specs.CellStates.{carried}
+use Rattle.cell_sweep.specs.CellStates.{carried}
 use Rattle.connector_flow.specs.Space.{HasSpace, IsSpaceOf, let_in}
-use Rattle.region_body.specs.declared.cell_state.CellState.{CellState}
+use Rattle.cell_sweep.specs.declared.cell_state.CellState.{CellState}
 use Rattle.region_body.proofs.LinkFlows.{link_flow-is}
 use Rattle.timelines.specs.Cells.{most_by}
 use Rattle.timelines.specs.Links.{most_between}

@@ -1,15 +1,16 @@
 -- What single connectors take from cells and bring to them, and what a region's connectors stand on in a step.
 use Rattle.std.specs.Prelude.{◌≡◌, ◌==◌, ℕ, ◌<◌, List, Option, length, slice_index, if◌then◌else◌}
 use Rattle.std.specs.List.{sum_by}
-use Rattle.signal_plan.specs.Demand.{demand_at}
-use Rattle.signal_plan.specs.Records.{PlanRecords}
-use Rattle.network_file.specs.Connectors.{connector_at}
-use Rattle.network_file.specs.Network.{IsNetwork, Network}
+use Rattle.step_plan.specs.Demand.{demand_at}
+use Rattle.step_plan.specs.Records.{PlanRecords}
+use Rattle.network_file.specs.Numbered.{connector_at}
+use Rattle.network_file.specs.Network.{Network}
+use Rattle.network_file.specs.Sound.{IsNetwork}
 use Rattle.flow_model.specs.Bounds.{IsHeldInBounds}
 use Rattle.flow_model.specs.Flows.{entering, flow_of, leaving}
 use Rattle.region_body.specs.CellRefs.{put_at}
-use Rattle.region_body.specs.CellStates.{cell_state_at}
-use Rattle.region_body.specs.declared.cell_state.CellState.{CellState}
+use Rattle.cell_sweep.specs.CellStates.{cell_state_at}
+use Rattle.cell_sweep.specs.declared.cell_state.CellState.{CellState}
 use Rattle.region_body.specs.Carrying.{AreConnectorsAmong}
 use Rattle.region_body.specs.declared.followed_connector.FollowedConnector.{FollowedConnector}
 

@@ -1,9 +1,10 @@
 -- What one connector takes from cells and brings to them.
-use Rattle.std.specs.Prelude.{◌==◌, Option, slice_index, if◌then◌else◌}
+use Rattle.std.specs.Prelude.{◌==◌, Bool, Option, slice_index, if◌then◌else◌}
 use Rattle.std.specs.List.{sum_by}
 use Rattle.std.proofs.Common.{◌≡◌, ℕ, zero, suc, ◌<◌, ◌≤◌, inl, inr, true, false, List, [], ◌∷◌, length, refl, sym, ap, ◌∙◌, arith}
 use Rattle.std.proofs.lemmas.Bool.{cases_eq, eq-eqb, ne_eqb}
-use Rattle.network_file.specs.Connectors.{cells_of, connector_at}
+use Rattle.network_file.specs.Connectors.{cells_of}
+use Rattle.network_file.specs.Numbered.{connector_at}
 use Rattle.network_file.specs.Network.{Network}
 use Rattle.network_file.specs.declared.connector.Connector.{Connector}
 use Rattle.network_file.specs.declared.connector.Connector.TheVariants.{Link, Merge, Diverge}
@@ -12,12 +13,15 @@ use Rattle.flow_model.specs.Flows.{flow_between, entering, flow_of, leaving}
 use Rattle.flow_model.specs.declared.carried.Flow.{Flow}
 use Rattle.region_body.specs.declared.cell_ref.CellRef.{CellRef}
 use Rattle.region_body.specs.declared.cell_ref.CellRef.TheVariants.{Own, Halo}
-use Rattle.region_body.specs.declared.cell_state.CellState.{CellState}
-use Rattle.signal_plan.proofs.Sums.{sum_by-same}
+use Rattle.cell_sweep.specs.declared.cell_state.CellState.{CellState}
+use Rattle.step_plan.proofs.Sums.{sum_by-same}
 use Rattle.region_cut.specs.ConnectorCells.{three_cells}
+use Rattle.connector_flow.specs.Flows.{flow_at}
 use Rattle.connector_flow.specs.Following.{rule_of}
+use Rattle.connector_flow.specs.Limits.{sends_second}
 use Rattle.region_body.specs.Carrying.{AreConnectorsAmong, CanCarry, IsConnectorAmong, brought, brought_by, carried_of, taken, taken_by, three_held}
-use Rattle.region_body.specs.CellRefs.{AreRefsOf, IsRefOf, IsWithin, held_in, parts_at, ref_at}
+use Rattle.region_body.specs.CellRefs.{AreRefsOf, IsRefOf, IsWithin, given_now, held_in, parts_at, ref_at}
+use Rattle.region_body.proofs.SpeedsNow.{AreSpeedsNow, given-is}
 use Rattle.region_body.proofs.Moves.{ArePartsOf, IsScene, in_by, out_by}
 use Rattle.region_body.specs.Placed.{IsSeen}
 use Rattle.region_body.specs.declared.followed_connector.FollowedConnector.{FollowedConnector}
@@ -125,14 +129,15 @@ three_in_bounds net t (Diverge up down1 down2 b1 b2) a b c first second third = 
     at (suc (suc (suc j))) within = absurd (omega arith)
 
 -- what it carries is its flow in the network
-pub carried-is : (net : Network) (t : ℕ) (n : ℕ → ℕ) (cells halo : List ℕ) (others : List FollowedConnector) (states : List CellState) (put : List (Option ℕ)) (followed : FollowedConnector) →
-    IsScene net t cells halo others states put → IsSeen n cells halo states put → IsConnectorAmong net cells halo followed →
-    carried_of t followed (held_in states put) ≡ flow_of net t n (connector_at net.connectors followed.number)
-carried-is net t n cells halo others states put followed scene seen connected =
+pub carried-is : (net : Network) (t : ℕ) (n : ℕ → ℕ) (cells halo : List ℕ) (others : List FollowedConnector) (states : List CellState) (speeds : List (ℕ × ℕ)) (put : List (Option ℕ)) (followed : FollowedConnector) →
+    IsScene net t cells halo others states put → IsSeen n cells halo states put → AreSpeedsNow net t cells halo speeds → IsConnectorAmong net cells halo followed →
+    carried_of t followed (given_now speeds states put) ≡ flow_of net t n (connector_at net.connectors followed.number)
+carried-is net t n cells halo others states speeds put followed scene seen now connected =
     let connector : Connector = connector_at net.connectors followed.number in
     let at : (m : ℕ) → m < 3 → IsHeldInBounds net t (slice_index (three_cells connector) m) (held_in states put (ref_at followed.cells m)) =
     λ m few. held-bounded net t cells halo others states put (slice_index (three_cells connector) m) (ref_at followed.cells m) scene (connected.refs m few) in
-    connected.timeline.flow t (three_held followed (held_in states put)) scene.before
+    ap (flow_at followed.timeline t) (given-is net t cells halo states speeds put followed scene.state_each now connected)
+    ∙ connected.timeline.flow t (three_held followed (held_in states put)) scene.before
     (three_in_bounds net t connector _ _ _ (at 0 (omega arith)) (at 1 (omega arith)) (at 2 (omega arith)))
     ∙ cells-held net t n cells halo states put followed seen connected
 
@@ -150,34 +155,39 @@ can_carry net t cells halo others states put followed scene connected step until
       until = until;
     }
 
-carried-same : (t : ℕ) (held other : CellRef → ℕ) (followed : FollowedConnector) → ((cell : CellRef) → held cell ≡ other cell) → carried_of t followed held ≡ carried_of t followed other
-carried-same t held other followed same = rw (same (ref_at followed.cells 0), same (ref_at followed.cells 1), same (ref_at followed.cells 2)) refl
+pub three-as : (a b c first second third : ℕ) → a ≡ first → b ≡ second → c ≡ third → a ∷ b ∷ c ∷ [] ≡ first ∷ second ∷ third ∷ []
+three-as a b c first second third one two three = rw (one, two, three) refl
+
+carried-same : (t : ℕ) (given other : Bool → CellRef → ℕ) (followed : FollowedConnector) → ((sends : Bool) (cell : CellRef) → given sends cell ≡ other sends cell) → carried_of t followed given ≡ carried_of t followed other
+carried-same t given other followed same =
+    ap (flow_at followed.timeline t)
+    (three-as _ _ _ _ _ _ (same true (ref_at followed.cells 0)) (same (sends_second followed.timeline.rule) (ref_at followed.cells 1)) (same false (ref_at followed.cells 2)))
 
 -- what it moves is what it moves in the network
-moves-as : (net : Network) (t : ℕ) (n : ℕ → ℕ) (cells halo : List ℕ) (others : List FollowedConnector) (states : List CellState) (put : List (Option ℕ)) (held : CellRef → ℕ) (p : ℕ) (followed : FollowedConnector) →
-    IsScene net t cells halo others states put → IsSeen n cells halo states put → ((cell : CellRef) → held cell ≡ held_in states put cell) →
+moves-as : (net : Network) (t : ℕ) (n : ℕ → ℕ) (cells halo : List ℕ) (others : List FollowedConnector) (states : List CellState) (speeds : List (ℕ × ℕ)) (put : List (Option ℕ)) (given : Bool → CellRef → ℕ) (p : ℕ) (followed : FollowedConnector) →
+    IsScene net t cells halo others states put → IsSeen n cells halo states put → AreSpeedsNow net t cells halo speeds → ((sends : Bool) (cell : CellRef) → given sends cell ≡ given_now speeds states put sends cell) →
     p < length cells → IsConnectorAmong net cells halo followed →
-    (taken t held p followed ≡ out_by net t n (slice_index cells p) followed.number) × (brought t held p followed ≡ in_by net t n (slice_index cells p) followed.number)
+    (taken t given p followed ≡ out_by net t n (slice_index cells p) followed.number) × (brought t given p followed ≡ in_by net t n (slice_index cells p) followed.number)
 unfolding taken brought
-moves-as net t n cells halo others states put held p followed scene seen same within connected =
+moves-as net t n cells halo others states speeds put given p followed scene seen now same within connected =
     let connector : Connector = connector_at net.connectors followed.number in
-    let flow : Flow = carried_of t followed held in
+    let flow : Flow = carried_of t followed given in
     let is : flow ≡ flow_of net t n connector =
-    carried-same t held (held_in states put) followed same ∙ carried-is net t n cells halo others states put followed scene seen connected in (
+    carried-same t given (given_now speeds states put) followed same ∙ carried-is net t n cells halo others states speeds put followed scene seen now connected in (
       ap (λ rule. taken_by rule followed flow p) connected.timeline.rule ∙ taken-from net others cells halo connector followed flow p scene.connected within connected.refs
           ∙ ap (leaving (slice_index cells p) connector) is,
       ap (λ rule. brought_by rule followed flow p) connected.timeline.rule ∙ brought-to net others cells halo connector followed flow p scene.connected within connected.refs
           ∙ ap (entering (slice_index cells p) connector) is,
     )
 
-pub parts-are : (net : Network) (t : ℕ) (n : ℕ → ℕ) (cells halo : List ℕ) (others : List FollowedConnector) (states : List CellState) (put : List (Option ℕ)) (held : CellRef → ℕ) →
-    IsScene net t cells halo others states put → IsSeen n cells halo states put → ((cell : CellRef) → held cell ≡ held_in states put cell) →
-    ArePartsOf net t n cells others (λ p. sum_by (taken t held p) others) (λ p. sum_by (brought t held p) others)
-parts-are net t n cells halo others states put held scene seen same = record {
+pub parts-are : (net : Network) (t : ℕ) (n : ℕ → ℕ) (cells halo : List ℕ) (others : List FollowedConnector) (states : List CellState) (speeds : List (ℕ × ℕ)) (put : List (Option ℕ)) (given : Bool → CellRef → ℕ) →
+    IsScene net t cells halo others states put → IsSeen n cells halo states put → AreSpeedsNow net t cells halo speeds → ((sends : Bool) (cell : CellRef) → given sends cell ≡ given_now speeds states put sends cell) →
+    ArePartsOf net t n cells others (λ p. sum_by (taken t given p) others) (λ p. sum_by (brought t given p) others)
+parts-are net t n cells halo others states speeds put given scene seen now same = record {
   taken = λ p within.
-      sum_by-same (IsConnectorAmong net cells halo) (taken t held p) (λ followed. out_by net t n (slice_index cells p) followed.number) others
-      (λ followed connected. (moves-as net t n cells halo others states put held p followed scene seen same within connected).0) scene.connected.each;
+      sum_by-same (IsConnectorAmong net cells halo) (taken t given p) (λ followed. out_by net t n (slice_index cells p) followed.number) others
+      (λ followed connected. (moves-as net t n cells halo others states speeds put given p followed scene seen now same within connected).0) scene.connected.each;
   brought = λ p within.
-      sum_by-same (IsConnectorAmong net cells halo) (brought t held p) (λ followed. in_by net t n (slice_index cells p) followed.number) others
-      (λ followed connected. (moves-as net t n cells halo others states put held p followed scene seen same within connected).1) scene.connected.each;
+      sum_by-same (IsConnectorAmong net cells halo) (brought t given p) (λ followed. in_by net t n (slice_index cells p) followed.number) others
+      (λ followed connected. (moves-as net t n cells halo others states speeds put given p followed scene seen now same within connected).1) scene.connected.each;
 }

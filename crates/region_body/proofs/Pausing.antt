@@ -1,45 +1,49 @@
 -- Cells among which nothing moves keep all but how long they waited.
 use Rattle.std.specs.Prelude.{All, None, Option, ◌==◌, ◌⊎◌, map, slice_index, if◌then◌else◌}
 use Rattle.std.specs.List.{range_with_len, sum_by}
-use Rattle.std.proofs.Common.{◌≡◌, Bool, ℕ, zero, suc, ◌+◌, ◌-◌, ◌^◌, ◌<◌, ◌≤◌, inl, inr, true, false, List, [], ◌∷◌, length, get_or, refl, sym, ap, ◌∙◌, subst, zero-add, add-one, arith}
+use Rattle.std.proofs.Common.{◌≡◌, Bool, ℕ, zero, suc, ◌+◌, ◌-◌, ◌^◌, ◌<◌, ◌≤◌, inl, inr, true, false, List, [], ◌∷◌, ◌++◌, length, get_or, refl, sym, ap, ◌∙◌, subst, zero-add, add-one, arith}
 use Rattle.std.proofs.lemmas.Bool.{cases_lt}
 use Rattle.std.proofs.lemmas.List.{ext_get_or}
 use Rattle.std.proofs.lemmas.List.FromFn.{get_or-map-range_with_len, length-map-range_with_len}
-use Rattle.signal_plan.proofs.Sums.{sum_by-zero}
-use Rattle.network_file.specs.Connectors.{connector_at}
-use Rattle.network_file.specs.Network.{IsNetwork, Network}
+use Rattle.step_plan.specs.Speeds.{arriving}
+use Rattle.step_plan.proofs.Sums.{sum_by-zero}
+use Rattle.network_file.specs.Numbered.{connector_at}
+use Rattle.network_file.specs.Network.{Network}
+use Rattle.network_file.specs.Sound.{IsNetwork}
 use Rattle.flow_model.specs.Flows.{amount_beside, entering, flow_of, inflow, leaving, outflow}
 use Rattle.flow_model.specs.Limits.{room_at}
-use Rattle.flow_model.specs.State.{rows_after}
+use Rattle.flow_model.specs.Stepping.{rows_after}
 use Rattle.flow_model.specs.Rows.{empty_row, next_row}
 use Rattle.connector_flow.specs.Flows.{flow_at, no_flow}
-use Rattle.region_body.specs.CellStates.{carried, link_in, link_out, moved, no_state, cell_state_at}
+use Rattle.connector_flow.specs.Limits.{sends_second}
+use Rattle.cell_sweep.specs.CellStates.{carried, link_in, link_out, moved, no_state, cell_state_at}
 use Rattle.connector_flow.specs.Space.{IsSpaceOf}
 use Rattle.region_body.specs.declared.cell_ref.CellRef.{CellRef}
 use Rattle.region_body.specs.declared.cell_ref.CellRef.TheVariants.{Own, Halo}
-use Rattle.region_body.specs.declared.cell_state.CellState.{CellState}
-use Rattle.region_body.proofs.Neighbours.{link_in-first, link_in-more, cell_state_at-past}
+use Rattle.cell_sweep.specs.declared.cell_state.CellState.{CellState}
+use Rattle.cell_sweep.proofs.Neighbours.{link_in-first, link_in-more, cell_state_at-past}
 use Rattle.timelines.specs.Cells.{CellValues}
 use Rattle.timelines.specs.Timelines.{TimelineValue, value_at}
 use Rattle.region_body.specs.FollowedLinks.{AreFollowed}
 use Rattle.region_body.specs.declared.followed_link.FollowedLink.{FollowedLink}
-use Rattle.region_body.specs.Carrying.{three_held}
-use Rattle.region_body.specs.CellRefs.{held_in, ref_at}
+use Rattle.region_body.specs.Carrying.{three_given}
+use Rattle.region_body.specs.CellRefs.{given_now, held_in, ref_at, speed_place}
 use Rattle.region_body.specs.Chains.{most_out}
 use Rattle.region_body.specs.Gates.{AreGatesKept, demand_into}
 use Rattle.region_body.proofs.Moves.{ArePartsOf, IsScene, in_by, out_by}
 use Rattle.region_body.specs.Pausing.{AreIdle, IsIdleUntil}
 use Rattle.region_body.specs.Placed.{ArePlaced, AreStatesInBounds, CanAdvance, IsSeen, PlacedCells, WaitThrough}
 use Rattle.region_body.specs.Rows.{IsOf, constants_at, row_of, rows_of}
-use Rattle.region_body.specs.Speeds.{at_speeds, slowed_state, ratio_at}
-use Rattle.region_body.specs.Waiting.{waited}
+use Rattle.cell_sweep.specs.Speeds.{at_speeds, slowed_state, ratio_at}
+use Rattle.cell_sweep.specs.Waiting.{waited}
 use Rattle.region_body.specs.declared.gate.GatePlace.{GatePlace}
 use Rattle.region_body.specs.declared.pause.Pause.{Pause}
 use Rattle.region_body.specs.declared.followed_connector.FollowedConnector.{FollowedConnector}
-use Rattle.region_body.proofs.Parting.{carried-is}
-use Rattle.region_body.proofs.AtSpeeds.{link_out-at_speeds}
+use Rattle.region_body.proofs.Parting.{carried-is, three-as}
+use Rattle.region_body.proofs.SpeedsNow.{AreSpeedsNow, speeds-now}
+use Rattle.cell_sweep.proofs.AtSpeeds.{link_out-at_speeds}
 use Rattle.region_body.proofs.Renewed.{renewed-of, speeds-later}
-use Rattle.region_body.proofs.Stays.{length-waited, n-waited, cell_state_at-waited, waited-same}
+use Rattle.cell_sweep.proofs.Waits.{length-waited, n-waited, cell_state_at-waited, waited-same}
 use Rattle.region_body.proofs.Gates.{demands-kept, gates-kept}
 use Rattle.region_body.proofs.Whole.{IsMoved, held-sum, length-rows_after, length-rows_of, ready, row-after, row_at-rows_after, row_at-rows_of, steps-moved}
 
@@ -131,11 +135,11 @@ limited-still net cells connectors t until speeds_until states speeds links othe
 
 -- the other connectors
 
-still-flow : (net : Network) (t : ℕ) (n : ℕ → ℕ) (cells halo : List ℕ) (others : List FollowedConnector) (states : List CellState) (put : List (Option ℕ)) (until k : ℕ) (followed : FollowedConnector) →
-    IsScene net t cells halo others states put → IsSeen n cells halo states put → All (λ followed. followed.timeline.step ≤ t) others → All (IsIdleUntil states put until) others →
+still-flow : (net : Network) (t : ℕ) (n : ℕ → ℕ) (cells halo : List ℕ) (others : List FollowedConnector) (states : List CellState) (speeds : List (ℕ × ℕ)) (put : List (Option ℕ)) (until k : ℕ) (followed : FollowedConnector) →
+    IsScene net t cells halo others states put → IsSeen n cells halo states put → AreSpeedsNow net t cells halo speeds → All (λ followed. followed.timeline.step ≤ t) others → All (IsIdleUntil speeds states put until) others →
     t < until → k < length others → flow_of net t n (connector_at net.connectors (get_or others k followed).number) ≡ no_flow
-still-flow net t n cells halo others states put until k followed scene seen come idle before there =
-    sym (carried-is net t n cells halo others states put (get_or others k followed) scene seen (scene.connected.each k followed there))
+still-flow net t n cells halo others states speeds put until k followed scene seen now come idle before there =
+    sym (carried-is net t n cells halo others states speeds put (get_or others k followed) scene seen now (scene.connected.each k followed there))
     ∙ idle k followed there t (come k followed there) before
 
 none-out : (net : Network) (t i : ℕ) (n : ℕ → ℕ) (k : ℕ) → flow_of net t n (connector_at net.connectors k) ≡ no_flow → out_by net t n i k ≤ 0
@@ -173,8 +177,10 @@ still net t n cells halo connectors placed put sound before has bounds seen wait
       own = λ p within. (ready net t n cells halo connectors placed put p sound before has bounds seen within).row.held;
       around = bounds.around;
     } in
+    let speeds : AreSpeedsNow net t cells halo placed.speeds =
+    speeds-now net cells halo placed.speed_timelines placed.speeds t placed.speeds_until has.speeds (omega (arith, wait.paused, idle.stays)) in
     let flow = λ (k : ℕ) (d : FollowedConnector) (there : k < length placed.connectors).
-    still-flow net t n cells halo placed.connectors placed.states put placed.pause.until k d scene seen has.come idle.carry_nothing wait.paused there in
+    still-flow net t n cells halo placed.connectors placed.states placed.speeds put placed.pause.until k d scene seen speeds has.come idle.carry_nothing wait.paused there in
     let parts : ArePartsOf net t n cells placed.connectors (λ p. 0) (λ p. 0) = record {
       taken = λ p within. sym (sum_by-zero (λ followed. out_by net t n (slice_index cells p) followed.number) placed.connectors
           (λ k d there. none-out net t (slice_index cells p) n (get_or placed.connectors k d).number (flow k d there)));
@@ -188,8 +194,8 @@ still net t n cells halo connectors placed put sound before has bounds seen wait
     wait.paused (omega (arith, has.one_each)) in
     let moves : IsMoved net t n cells states (λ p. 0) (λ p. 0) =
     steps-moved net cells halo connectors t n placed states (λ p. 0) (λ p. 0) (λ p. 0) put sound before has bounds seen
-    (renewed-of net cells connectors t placed.speeds_until placed now placed.speed_timelines placed.speeds sound has.around has.one_each
-    (length-limited net cells connectors t placed.states) (limited-at net cells connectors t placed.states) has.speeds (omega (arith, wait.paused, idle.stays))) parts
+    (renewed-of net cells halo connectors t placed now placed.speeds sound has.one_each
+    (length-limited net cells connectors t placed.states) (limited-at net cells connectors t placed.states) speeds) parts
     (λ p. omega (arith, none-demanded t p placed.gates wait.demand_nothing)) in
     λ p within. (
       omega (arith, moves.leaves p within, none p within),
@@ -249,9 +255,18 @@ held-waited : (states : List CellState) (put : List (Option ℕ)) (cell : CellRe
 held-waited states put (Own p) = n-waited 1 states p
 held-waited states put (Halo j) = refl
 
-three-waited : (followed : FollowedConnector) (states : List CellState) (put : List (Option ℕ)) → three_held followed (held_in (map (waited 1) states) put) ≡ three_held followed (held_in states put)
-three-waited followed states put =
-    rw (held-waited states put (ref_at followed.cells 0), held-waited states put (ref_at followed.cells 1), held-waited states put (ref_at followed.cells 2)) refl
+given-waited : (speeds : List (ℕ × ℕ)) (states : List CellState) (put : List (Option ℕ)) (sends : Bool) (cell : CellRef) →
+    given_now speeds (map (waited 1) states) put sends cell ≡ given_now speeds states put sends cell
+given-waited speeds states put true cell =
+    ap (λ count. arriving (ratio_at speeds (speed_place count cell)) (held_in (map (waited 1) states) put cell)) (length-waited 1 states)
+    ∙ ap (arriving (ratio_at speeds (speed_place (length states) cell))) (held-waited states put cell)
+given-waited speeds states put false cell = held-waited states put cell
+
+three-waited : (followed : FollowedConnector) (speeds : List (ℕ × ℕ)) (states : List CellState) (put : List (Option ℕ)) →
+    three_given followed (given_now speeds (map (waited 1) states) put) ≡ three_given followed (given_now speeds states put)
+three-waited followed speeds states put =
+    three-as _ _ _ _ _ _ (given-waited speeds states put true (ref_at followed.cells 0)) (given-waited speeds states put (sends_second followed.timeline.rule) (ref_at followed.cells 1))
+    (given-waited speeds states put false (ref_at followed.cells 2))
 
 next-waited : (states : List CellState) (p : ℕ) (state : CellState) → carried state (cell_state_at (map (waited 1) states) p) ≡ carried state (cell_state_at states p)
 next-waited states p state = elim (cases_lt p (length states)) [
@@ -278,7 +293,7 @@ idle-waited states speeds speeds_until links others put until idle = record {
     | inr later ↦ inr later
   ];
   carry_nothing = λ k d within s from before.
-      ap (flow_at (get_or others k d).timeline s) (three-waited (get_or others k d) states put) ∙ idle.carry_nothing k d within s from before;
+      ap (flow_at (get_or others k d).timeline s) (three-waited (get_or others k d) speeds states put) ∙ idle.carry_nothing k d within s from before;
 }
 
 followed-waited : (most : ℕ → ℕ → ℕ) (states : List CellState) (links : List FollowedLink) (t : ℕ) → AreFollowed most states links t →
@@ -323,7 +338,7 @@ placed-waited net cells t placed put gates before sound in_time wait kept long n
       links = λ k d within.
           let there = has.links k d within in
           record { place = omega (arith, there.place, length-waited 1 placed.states); step = omega (arith, there.step) };
-      speeds = speeds-later net cells placed.speed_timelines placed.speeds t placed.speeds_until has.speeds;
+      speeds = speeds-later net (cells ++ can.halo) placed.speed_timelines placed.speeds t placed.speeds_until has.speeds;
       zones = has.zones;
       followed = followed-waited (most_out net cells can.connectors) placed.states placed.links t has.followed;
       pause = record {

@@ -1,48 +1,25 @@
 -- States, links and speeds as they are renewed for a step.
-use Rattle.std.specs.Prelude.{All, Bool, min, not, ◌&&◌, slice_index}
-use Rattle.std.proofs.Common.{◌≡◌, ℕ, ◌+◌, ◌<◌, true, false, inl, inr, List, length, refl, sym, ap, ◌∙◌, arith}
+use Rattle.std.specs.Prelude.{All, min, slice_index}
+use Rattle.std.proofs.Common.{◌≡◌, ℕ, ◌+◌, ◌<◌, false, inl, inr, List, ◌++◌, length, refl, sym, ap, ◌∙◌, arith}
 use Rattle.std.proofs.lemmas.Bool.{cases_Bool}
-use Rattle.signal_plan.specs.Speeds.{arriving, has_speeds, speed_at}
-use Rattle.signal_plan.proofs.Laws.{arriving-le, speed_at-none}
-use Rattle.network_file.specs.Cells.{is_exit_at}
-use Rattle.network_file.specs.Network.{IsNetwork, Network}
+use Rattle.step_plan.specs.Speeds.{arriving, speed_at}
+use Rattle.step_plan.proofs.Laws.{arriving-le}
+use Rattle.network_file.specs.Network.{Network}
+use Rattle.network_file.specs.Sound.{IsNetwork}
 use Rattle.flow_model.proofs.CellLimits.{speed_at-sound}
 use Rattle.timelines.specs.Timelines.{value_at}
-use Rattle.region_body.specs.CellStates.{AreSound, cell_state_at}
-use Rattle.region_body.specs.declared.cell_state.CellState.{CellState}
-use Rattle.region_body.specs.Chains.{AreAround, is_joined, most_out}
+use Rattle.cell_sweep.specs.CellStates.{AreSound, cell_state_at}
+use Rattle.cell_sweep.specs.declared.cell_state.CellState.{CellState}
+use Rattle.region_body.specs.Chains.{most_out}
 use Rattle.region_body.specs.FollowedLinks.{AreFollowed, IsLinkThere}
 use Rattle.region_body.specs.declared.followed_link.FollowedLink.{FollowedLink}
 use Rattle.region_body.specs.Placed.{ArePlaced, PlacedCells}
-use Rattle.region_body.specs.Speeds.{AreSpeedsInForce, AreSpeedsAsBefore, AreSpeedsOf, IsSpeedThere, at_speeds, cell_speed, is_listed, is_slow, slowed_state, ratio_at}
+use Rattle.cell_sweep.specs.Speeds.{at_speeds, is_slow, slowed_state, ratio_at}
+use Rattle.region_body.specs.FollowedSpeeds.{AreSpeedsInForce, AreSpeedsAsBefore, AreSpeedsOf, IsSpeedThere, cell_speed, is_listed}
 use Rattle.region_body.specs.declared.followed_speed.FollowedSpeed.{FollowedSpeed}
-use Rattle.region_body.proofs.AtSpeeds.{at_speeds-at, length-at_speeds}
-use Rattle.region_body.proofs.Extending.{most-by}
-use Rattle.region_body.proofs.Flowing.{joined-sends}
+use Rattle.cell_sweep.proofs.AtSpeeds.{at_speeds-at, length-at_speeds}
+use Rattle.region_body.proofs.SpeedsNow.{AreSpeedsNow, speeds-now}
 use Rattle.region_body.proofs.SpeedTimelines.{listed-at, listed-same, no_speed}
-
--- the speeds in step t
-
-first-false : (a b : Bool) → a ≡ true → (a && not b) ≡ false → b ≡ true
-first-false true true is free = refl
-first-false true false is free = cc
-first-false false b is free = cc
-
--- a cell out of which a link leads sends at its speed
-speed-now : (net : Network) (cells : List ℕ) (timelines : List FollowedSpeed) (speeds : List (ℕ × ℕ)) (t until p : ℕ) → AreSpeedsOf net cells timelines speeds t until →
-    t < until → p < length cells → is_exit_at net.cells (slice_index cells p) ≡ false → ratio_at speeds p ≡ cell_speed net cells p t
-speed-now net cells timelines speeds t until p are before within sends = elim (cases_Bool (is_listed timelines p)) [
-  | inl listed ↦ are.in_force p listed t (omega arith) before
-  | inr other ↦
-      let none : has_speeds net.plan (slice_index cells p) ≡ false = elim (cases_Bool (has_speeds net.plan (slice_index cells p))) [
-        | inl some ↦ elim (cases_Bool (is_slow net cells p)) [
-          | inl slow ↦ absurd (cc (are.whole p within slow, other))
-          | inr free ↦ absurd (cc (first-false (has_speeds net.plan (slice_index cells p)) (is_exit_at net.cells (slice_index cells p)) some free, sends))
-        ]
-        | inr none ↦ none
-      ] in
-      are.others p other ∙ sym (speed_at-none net.plan (slice_index cells p) t none)
-]
 
 -- a place whose cell isn't slow has its road's own speed
 pub speed-free : (net : Network) (cells : List ℕ) (timelines : List FollowedSpeed) (speeds : List (ℕ × ℕ)) (t until p : ℕ) → AreSpeedsOf net cells timelines speeds t until →
@@ -58,18 +35,13 @@ speed-free net cells timelines speeds t until p are free = elim (cases_Bool (is_
 abbrev pub sent_now : Network → (cells connectors : List ℕ) → (t p n : ℕ) → ℕ
 sent_now net cells connectors t p n = min (most_out net cells connectors p t) (arriving (speed_at net.plan (slice_index cells p) t) n)
 
-pub sends-now : (net : Network) (cells connectors : List ℕ) (timelines : List FollowedSpeed) (speeds : List (ℕ × ℕ)) (t until p n : ℕ) → IsNetwork net →
-    AreAround net cells connectors → AreSpeedsOf net cells timelines speeds t until → t < until → p < length cells →
+pub sends-now : (net : Network) (cells halo connectors : List ℕ) (speeds : List (ℕ × ℕ)) (t p n : ℕ) → IsNetwork net →
+    AreSpeedsNow net t cells halo speeds → p < length cells →
     min (min (most_out net cells connectors p t) (arriving (ratio_at speeds p) n)) n ≡ sent_now net cells connectors t p n
-sends-now net cells connectors timelines speeds t until p n sound around are before within = elim (cases_Bool (is_joined net cells connectors p)) [
-  | inl joined ↦
-      let few = arriving-le (cell_speed net cells p t) n (speed_at-sound net (slice_index cells p) t sound) in
-      let is = speed-now net cells timelines speeds t until p are before within (joined-sends net cells connectors p sound around joined) in
-      rw is (omega (arith, few))
-  | inr apart ↦
-      let none : most_out net cells connectors p t ≡ 0 = most-by net cells connectors p t false apart in
-      omega (arith, none)
-]
+sends-now net cells halo connectors speeds t p n sound now within =
+    let few = arriving-le (cell_speed net cells p t) n (speed_at-sound net (slice_index cells p) t sound) in
+    let is = now.own p within in
+    rw is (omega (arith, few))
 
 -- states that send in step t what limits and speeds let through
 pub record AreRenewed (net : Network) (cells connectors : List ℕ) (t : ℕ) (placed : PlacedCells) (states : List CellState) : Type 0 where
@@ -110,12 +82,12 @@ pub record IsRenewal (t : ℕ) (placed : PlacedCells) (new : Renewal) : Type 0 w
   pub others : (p : ℕ) → is_listed placed.speed_timelines p ≡ false → ratio_at new.speeds p ≡ ratio_at placed.speeds p
 
 -- states, links and speeds in step t
-pub record IsFresh (net : Network) (cells connectors : List ℕ) (t : ℕ) (placed : PlacedCells) (new : Renewal) : Type 0 where
+pub record IsFresh (net : Network) (cells halo connectors : List ℕ) (t : ℕ) (placed : PlacedCells) (new : Renewal) : Type 0 where
   pub renewed : AreRenewed net cells connectors t placed (sending new)
   pub kept : AreKept placed new.states
   pub links_there : All (IsLinkThere (length new.states) t) new.links
   pub followed : AreFollowed (most_out net cells connectors) new.states new.links t
-  pub speeds : AreSpeedsOf net cells new.timelines new.speeds t new.until
+  pub speeds : AreSpeedsOf net (cells ++ halo) new.timelines new.speeds t new.until
   pub later : t < new.until
 
 speeds-renewed : (net : Network) (cells : List ℕ) (t : ℕ) (placed : PlacedCells) (new : Renewal) → AreSpeedsOf net cells placed.speed_timelines placed.speeds t placed.speeds_until →
@@ -137,11 +109,11 @@ speeds-renewed net cells t placed new has is =
       others = λ p other. is.others p (sym (same p) ∙ other) ∙ has.others p (sym (same p) ∙ other);
     }
 
-pub renewed-of : (net : Network) (cells connectors : List ℕ) (t until : ℕ) (placed : PlacedCells) (states : List CellState) (timelines : List FollowedSpeed) (speeds : List (ℕ × ℕ)) →
-    IsNetwork net → AreAround net cells connectors → length placed.states ≡ length cells → length states ≡ length placed.states →
+pub renewed-of : (net : Network) (cells halo connectors : List ℕ) (t : ℕ) (placed : PlacedCells) (states : List CellState) (speeds : List (ℕ × ℕ)) →
+    IsNetwork net → length placed.states ≡ length cells → length states ≡ length placed.states →
     ((p : ℕ) → p < length placed.states → cell_state_at states p ≡ record (cell_state_at placed.states p) { most = most_out net cells connectors p t }) →
-    AreSpeedsOf net cells timelines speeds t until → t < until → AreRenewed net cells connectors t placed (at_speeds states speeds)
-renewed-of net cells connectors t until placed states timelines speeds sound around one_each long most are before =
+    AreSpeedsNow net t cells halo speeds → AreRenewed net cells connectors t placed (at_speeds states speeds)
+renewed-of net cells halo connectors t placed states speeds sound one_each long most now =
     let at = λ (p : ℕ) (within : p < length placed.states). at_speeds-at states speeds p (omega (arith, within, long)) in
     record {
       long = length-at_speeds states speeds ∙ long;
@@ -152,16 +124,17 @@ renewed-of net cells connectors t until placed states timelines speeds sound aro
       sends = λ p within.
           let n : ℕ = (cell_state_at placed.states p).n in
           ap (λ state. min state.most n) (at p within) ∙ ap (λ state. min (slowed_state state (ratio_at speeds p)).most n) (most p within)
-          ∙ sends-now net cells connectors timelines speeds t until p n sound around are before (omega (arith, within, one_each));
+          ∙ sends-now net cells halo connectors speeds t p n sound now (omega (arith, within, one_each));
     }
 
 pub fresh-of : (net : Network) (cells halo connectors : List ℕ) (t : ℕ) (placed : PlacedCells) (new : Renewal) → IsNetwork net → ArePlaced net cells halo connectors t placed →
-    IsRenewal t placed new → IsFresh net cells connectors t placed new
+    IsRenewal t placed new → IsFresh net cells halo connectors t placed new
 fresh-of net cells halo connectors t placed new sound has is =
     let most = is.most (most_out net cells connectors) has.followed in
-    let speeds = speeds-renewed net cells t placed new has.speeds is in
+    let speeds = speeds-renewed net (cells ++ halo) t placed new has.speeds is in
     record {
-      renewed = renewed-of net cells connectors t new.until placed new.states new.timelines new.speeds sound has.around has.one_each is.long most speeds is.later;
+      renewed = renewed-of net cells halo connectors t placed new.states new.speeds sound has.one_each is.long most
+          (speeds-now net cells halo new.timelines new.speeds t new.until speeds is.later);
       kept = record {
         long = is.long;
         only_most = λ p within. most p within ∙ ap {B = CellState} (λ m. record (cell_state_at placed.states p) { most = m }) (sym (ap (λ state. state.most) (most p within)));

@@ -4,7 +4,7 @@ use Rattle.std.specs.List.{filter, range_with_len, sum_by}
 use Rattle.std.proofs.Common.{◌≡◌, ℕ, ◌-◌, ◌<◌, ◌≤◌, inl, inr, true, false, get_or, refl, sym, ap, ◌∙◌, arith}
 use Rattle.std.proofs.lemmas.List.FromFn.{get_or-range_with_len, length-range_with_len}
 use Rattle.std.proofs.lemmas.List.Sums.{get_or-le-sum_by}
-use Rattle.signal_plan.proofs.Sums.{sum_by-filter, sum_by-same, sum_by_splits}
+use Rattle.step_plan.proofs.Sums.{sum_by-filter, sum_by-same, sum_by_splits}
 
 -- so much of one of them, if it is among them
 abbrev chosen : (touched odd : Bool) → ℕ → ℕ

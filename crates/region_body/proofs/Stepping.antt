@@ -7,8 +7,8 @@ use Rattle.network_file.specs.Network.{Network}
 use Rattle.flow_model.specs.Rows.{moved_row}
 use Rattle.flow_model.specs.declared.row.Row.{Row}
 use Rattle.flow_model.proofs.Bounds.{IsChange}
-use Rattle.region_body.specs.CellStates.{moved}
-use Rattle.region_body.specs.declared.cell_state.CellState.{CellState}
+use Rattle.cell_sweep.specs.CellStates.{moved}
+use Rattle.cell_sweep.specs.declared.cell_state.CellState.{CellState}
 use Rattle.region_body.specs.Rows.{IsOf, row_of}
 use Rattle.region_body.specs.declared.cell_constants.CellConstants.{CellConstants}
 

@@ -1,30 +1,35 @@
 -- A whole step of states is the step of their cells.
-use Rattle.std.specs.Prelude.{All, Bool, Option, ◌==◌, ◌&&◌, map, min, not, slice_index, if◌then◌else◌}
+use Rattle.std.specs.Prelude.{All, Bool, Option, ◌==◌, map, min, slice_index, if◌then◌else◌}
 use Rattle.std.proofs.lemmas.List.Elements.{Contains-get_or}
 use Rattle.std.specs.List.{Contains, filter, range_with_len, sum_by}
-use Rattle.std.proofs.Common.{◌≡◌, ℕ, ◌+◌, ◌-◌, ◌^◌, ◌<◌, ◌≤◌, inl, inr, true, false, List, length, get_or, refl, sym, ap, ◌∙◌, subst, zero-add, arith}
+use Rattle.std.proofs.Common.{◌≡◌, ℕ, ◌+◌, ◌-◌, ◌^◌, ◌<◌, ◌≤◌, inl, inr, true, false, List, ◌++◌, length, get_or, refl, sym, ap, ◌∙◌, subst, zero-add, arith}
 use Rattle.std.proofs.lemmas.Bool.{cases_Bool, cases_eq, eq-eqb, ne_eqb}
-use Rattle.std.proofs.lemmas.List.{ext_get_or, get_or-map, length-map}
+use Rattle.std.proofs.lemmas.List.{ext_get_or, get_or-map, get_or_append_left, length-append, length-map}
 use Rattle.std.proofs.lemmas.List.FromFn.{get_or-map-range_with_len, length-map-range_with_len}
-use Rattle.signal_plan.specs.Capacity.{capacity_at}
-use Rattle.signal_plan.specs.Demand.{demand_at}
-use Rattle.signal_plan.specs.Speeds.{arriving, has_speeds, speed_at}
-use Rattle.signal_plan.proofs.Sums.{sum_by-filter, sum_by_agree, sum_by_range_one}
-use Rattle.network_file.specs.Cells.{is_exit_at, is_gate_at}
-use Rattle.network_file.specs.Network.{IsNetwork, Network}
+use Rattle.step_plan.specs.Capacity.{capacity_at}
+use Rattle.step_plan.specs.Demand.{demand_at}
+use Rattle.step_plan.specs.Speeds.{arriving, speed_at}
+use Rattle.step_plan.specs.SpeedBounds.{has_speeds}
+use Rattle.step_plan.proofs.Sums.{sum_by-filter, sum_by_agree, sum_by_range_one}
+use Rattle.network_file.specs.Cells.{is_gate_at}
+use Rattle.network_file.specs.Network.{Network}
+use Rattle.network_file.specs.Sound.{IsNetwork}
+use Rattle.network_file.proofs.PlanFacts.{has_speeds-road}
 use Rattle.flow_model.specs.Bounds.{IsHeldInBounds, IsRowInBounds}
 use Rattle.flow_model.specs.Flows.{inflow, outflow}
 use Rattle.flow_model.specs.Limits.{room_at}
 use Rattle.flow_model.specs.Rows.{empty_row, moved_row, next_row}
-use Rattle.flow_model.specs.State.{row_at, rows_after}
+use Rattle.flow_model.specs.State.{row_at}
+use Rattle.flow_model.specs.Stepping.{rows_after}
 use Rattle.flow_model.specs.declared.row.Row.{Row}
 use Rattle.flow_model.proofs.Bounds.{IsChange, IsSmall, changes, held-le, moved_row-in_bounds, small}
+use Rattle.flow_model.proofs.CellKinds.{road_at-alone}
 use Rattle.flow_model.proofs.CellLimits.{capacity_at-le}
 use Rattle.flow_model.proofs.Flows.{inflow-gate}
-use Rattle.region_body.specs.CellStates.{AreSound, link_in, link_out, moved, cell_state_at}
+use Rattle.cell_sweep.specs.CellStates.{AreSound, link_in, link_out, moved, cell_state_at}
 use Rattle.connector_flow.specs.Space.{HasSpace, IsSpaceOf}
 use Rattle.connector_flow.proofs.Spaces.{has-space}
-use Rattle.region_body.specs.declared.cell_state.CellState.{CellState}
+use Rattle.cell_sweep.specs.declared.cell_state.CellState.{CellState}
 use Rattle.region_body.proofs.LinkFlows.{held-fits}
 use Rattle.region_body.specs.Chains.{AreAround, most_out, odd_ones}
 use Rattle.region_body.specs.Placed.{ArePlaced, AreStatesInBounds, CanAdvance, IsSeen, PlacedCells}
@@ -32,7 +37,7 @@ use Rattle.region_body.specs.FollowedLinks.{AreFollowed}
 use Rattle.region_body.specs.declared.followed_link.FollowedLink.{FollowedLink}
 use Rattle.region_cut.proofs.Ranges.{Contains-filter_range}
 use Rattle.region_body.proofs.Moves.{ArePartsOf, IsScene, demand_for, in_by, out_by}
-use Rattle.region_body.specs.Speeds.{CanSweep, is_slow}
+use Rattle.cell_sweep.specs.Speeds.{CanSweep, is_slow}
 use Rattle.region_body.specs.Rows.{AreSettled, IsOf, constants_at, row_of, rows_of}
 use Rattle.region_body.specs.declared.cell_constants.CellConstants.{CellConstants}
 use Rattle.region_body.specs.declared.followed_connector.FollowedConnector.{FollowedConnector}
@@ -222,27 +227,23 @@ sound-fresh net t n cells halo connectors placed states put sound before has bou
           omega arith;
     }
 
-second-false : (a b : Bool) → (a && not b) ≡ true → b ≡ false
-second-false true false is = refl
-second-false true true is = cc
-second-false false b is = cc
-
 -- so they can be swept, by their speeds and zones
 pub can-sweep : (net : Network) (t : ℕ) (n : ℕ → ℕ) (cells halo connectors : List ℕ) (placed : PlacedCells) (put : List (Option ℕ)) (new : Renewal) →
     IsNetwork net → t < net.steps → ArePlaced net cells halo connectors t placed → AreStatesInBounds net cells halo t placed put →
-    IsSeen n cells halo placed.states put → IsFresh net cells connectors t placed new → CanSweep new.states new.speeds placed.zones
+    IsSeen n cells halo placed.states put → IsFresh net cells halo connectors t placed new → CanSweep new.states new.speeds placed.zones
 can-sweep net t n cells halo connectors placed put new sound before has bounds seen now =
     let same : length new.states ≡ length cells = now.kept.long ∙ has.one_each in
     record {
       slow = is_slow net cells;
       laid = rw same has.zones;
-      free = λ p within free. speed-free net cells new.timelines new.speeds t new.until p now.speeds free;
-      known = λ some. rw same (now.speeds.known some);
+      free = λ p within free. speed-free net (cells ++ halo) new.timelines new.speeds t new.until p now.speeds
+          (ap (has_speeds net.plan) (get_or_append_left cells halo 0 p (omega (arith, within, same))) ∙ free);
+      known = λ some. omega (arith, now.speeds.known some, length-append cells halo, same);
       few = λ p within slow.
           let i : ℕ = slice_index cells p in
           let is = ready net t n cells halo connectors placed put p sound before has bounds seen (omega (arith, within, same)) in
           let n_is = ap (λ state. state.n) (now.kept.only_most p (omega (arith, within, now.kept.long))) in
-          let sends = second-false (has_speeds net.plan i) (is_exit_at net.cells i) slow in
+          let sends = (road_at-alone net.cells i (has_speeds-road net i sound is.there slow)).1 in
           omega (arith, n_is, held-le net t i (cell_state_at placed.states p).n sound is.there sends is.row.held);
     }
 
@@ -315,7 +316,7 @@ pub record AreBrought (net : Network) (cells : List ℕ) (t : ℕ) (n : ℕ → 
 -- the parts of a step, one after the other
 pub record AreSteps (net : Network) (cells halo connectors : List ℕ) (t : ℕ) (n : ℕ → ℕ) (placed : PlacedCells) (new : Renewal)
     (outs carried ins : ℕ → ℕ) (after : List CellState) : Type 0 where
-  pub now : IsFresh net cells connectors t placed new
+  pub now : IsFresh net cells halo connectors t placed new
   pub brought : AreBrought net cells t n placed outs carried ins
   pub long_after : length after ≡ length new.states
   pub stepped_each : (p : ℕ) → p < length new.states →
@@ -495,7 +496,7 @@ placed-after net cells halo connectors t n placed new outs carried ins after bef
       links = λ k d within.
           let there = steps.now.links_there k d within in
           record { place = omega (arith, there.place, steps.long_after); step = omega (arith, there.step) };
-      speeds = speeds-later net cells new.timelines new.speeds t new.until steps.now.speeds;
+      speeds = speeds-later net (cells ++ halo) new.timelines new.speeds t new.until steps.now.speeds;
       zones = has.zones;
       followed = follows-later (most_out net cells connectors) new.states after new.links t steps.long_after
           (λ p there. ap (λ state. state.most) (steps.stepped_each p there)) steps.now.followed;

@@ -1,17 +1,18 @@
 -- What the connectors that aren't chained carry in a step.
-use Rattle.std.specs.Prelude.{◌≡◌, ◌≢◌, ℕ, ◌+◌, ◌^◌, ◌<◌, ◌≤◌, All, List, [], ◌∷◌, Option, length, slice_index, slice_index_or, sum_by}
-use Rattle.network_file.specs.Connectors.{connector_at}
+use Rattle.std.specs.Prelude.{◌≡◌, ◌≢◌, ℕ, ◌+◌, ◌^◌, ◌<◌, ◌≤◌, All, Bool, true, false, List, [], ◌∷◌, Option, length, slice_index, slice_index_or, sum_by}
+use Rattle.network_file.specs.Numbered.{connector_at}
 use Rattle.network_file.specs.Network.{Network}
 use Rattle.connector_flow.specs.Flows.{flow_at}
 use Rattle.connector_flow.specs.Following.{IsTimelineOf}
+use Rattle.connector_flow.specs.Limits.{sends_second}
 use Rattle.connector_flow.specs.declared.rule.Rule.{Rule}
 use Rattle.connector_flow.specs.declared.rule.Rule.TheVariants.{Linking, Merging, Diverging}
 use Rattle.flow_model.specs.declared.carried.Flow.{Flow}
 use Rattle.region_body.specs.Chains.{AreDistinct}
-use Rattle.region_body.specs.CellRefs.{AreRefsOf, IsWithin, held_before, parts_at, ref_at}
-use Rattle.region_body.specs.CellStates.{cell_state_at, with_entered, with_left}
+use Rattle.region_body.specs.CellRefs.{AreRefsOf, IsWithin, given_before, parts_at, ref_at}
+use Rattle.cell_sweep.specs.CellStates.{cell_state_at, with_entered, with_left}
 use Rattle.region_body.specs.declared.cell_ref.CellRef.{CellRef}
-use Rattle.region_body.specs.declared.cell_state.CellState.{CellState}
+use Rattle.cell_sweep.specs.declared.cell_state.CellState.{CellState}
 use Rattle.region_body.specs.declared.followed_connector.FollowedConnector.{FollowedConnector}
 
 -- the connector is one of the network: it finds its cells among these and those of the halo, and carries what the network has it carry
@@ -30,9 +31,14 @@ pub record AreConnectorsAmong (net : Network) (cells halo : List ℕ) (connector
 abbrev pub three_held : FollowedConnector → (held : CellRef → ℕ) → List ℕ
 three_held connector held = held (ref_at connector.cells 0) ∷ held (ref_at connector.cells 1) ∷ held (ref_at connector.cells 2) ∷ []
 
+-- what it is given of them: the first cell sends, the second one in a merge alone, and the third never
+abbrev pub three_given : FollowedConnector → (given : (sends : Bool) → CellRef → ℕ) → List ℕ
+three_given connector given =
+    given true (ref_at connector.cells 0) ∷ given (sends_second connector.timeline.rule) (ref_at connector.cells 1) ∷ given false (ref_at connector.cells 2) ∷ []
+
 -- what it carries in step t
-abbrev pub carried_of : (t : ℕ) → FollowedConnector → (held : CellRef → ℕ) → Flow
-carried_of t connector held = flow_at connector.timeline t (three_held connector held)
+abbrev pub carried_of : (t : ℕ) → FollowedConnector → (given : (sends : Bool) → CellRef → ℕ) → Flow
+carried_of t connector given = flow_at connector.timeline t (three_given connector given)
 
 -- it can carry it: its cells are there, where the region has so many of its own, and its limits are those of the step
 pub record CanCarry (t : ℕ) (connector : FollowedConnector) (count : ℕ) (put : List (Option ℕ)) : Type 0 where
@@ -66,11 +72,11 @@ brought_by Merging connector flow p = parts_at (ref_at connector.cells 2) flow.i
 brought_by Diverging connector flow p = parts_at (ref_at connector.cells 1) flow.in1 p + parts_at (ref_at connector.cells 2) flow.in2 p
 
 -- the same in step t
-unfoldable pub taken : (t : ℕ) → (held : CellRef → ℕ) → (p : ℕ) → FollowedConnector → ℕ
-taken t held p connector = taken_by connector.timeline.rule connector (carried_of t connector held) p
+unfoldable pub taken : (t : ℕ) → (given : (sends : Bool) → CellRef → ℕ) → (p : ℕ) → FollowedConnector → ℕ
+taken t given p connector = taken_by connector.timeline.rule connector (carried_of t connector given) p
 
-unfoldable pub brought : (t : ℕ) → (held : CellRef → ℕ) → (p : ℕ) → FollowedConnector → ℕ
-brought t held p connector = brought_by connector.timeline.rule connector (carried_of t connector held) p
+unfoldable pub brought : (t : ℕ) → (given : (sends : Bool) → CellRef → ℕ) → (p : ℕ) → FollowedConnector → ℕ
+brought t given p connector = brought_by connector.timeline.rule connector (carried_of t connector given) p
 
 -- a state from which so much was taken and to which so much was brought
 abbrev pub passed : CellState → (enters leaves : ℕ) → CellState
@@ -82,22 +88,22 @@ pub record CanPass (state : CellState) (enters leaves : ℕ) : Type 0 where
   pub gone : state.gone + leaves < 2 ^ 64
   pub fits : state.n + enters < 2 ^ 64
 
--- so can each state what this connector takes from it and brings to it in step t, by what the cells held before
-abbrev pub CanConnectorPass : (t : ℕ) → (before : List ℕ) → (put : List (Option ℕ)) → FollowedConnector → List CellState → Type 0
-CanConnectorPass t before put connector states =
-    (p : ℕ) → p < length states → CanPass (cell_state_at states p) (brought t (held_before before put) p connector) (taken t (held_before before put) p connector)
+-- so can each state what this connector takes from it and brings to it in step t, by these speeds and what cells held before
+abbrev pub CanConnectorPass : (t : ℕ) → (speeds : List (ℕ × ℕ)) → (before : List ℕ) → (put : List (Option ℕ)) → FollowedConnector → List CellState → Type 0
+CanConnectorPass t speeds before put connector states =
+    (p : ℕ) → p < length states → CanPass (cell_state_at states p) (brought t (given_before speeds before put) p connector) (taken t (given_before speeds before put) p connector)
 
 -- and it has
-abbrev pub HasConnectorPassed : (t : ℕ) → (before : List ℕ) → (put : List (Option ℕ)) → FollowedConnector → (old new : List CellState) → Type 0
-HasConnectorPassed t before put connector old new =
-    (p : ℕ) → p < length old → cell_state_at new p ≡ passed (cell_state_at old p) (brought t (held_before before put) p connector) (taken t (held_before before put) p connector)
+abbrev pub HasConnectorPassed : (t : ℕ) → (speeds : List (ℕ × ℕ)) → (before : List ℕ) → (put : List (Option ℕ)) → FollowedConnector → (old new : List CellState) → Type 0
+HasConnectorPassed t speeds before put connector old new =
+    (p : ℕ) → p < length old → cell_state_at new p ≡ passed (cell_state_at old p) (brought t (given_before speeds before put) p connector) (taken t (given_before speeds before put) p connector)
 
 -- the same of what all these connectors take and bring
-abbrev pub CanConnectorsPass : (t : ℕ) → (before : List ℕ) → (put : List (Option ℕ)) → List FollowedConnector → List CellState → Type 0
-CanConnectorsPass t before put connectors states =
-    (p : ℕ) → p < length states → CanPass (cell_state_at states p) (sum_by (brought t (held_before before put) p) connectors) (sum_by (taken t (held_before before put) p) connectors)
+abbrev pub CanConnectorsPass : (t : ℕ) → (speeds : List (ℕ × ℕ)) → (before : List ℕ) → (put : List (Option ℕ)) → List FollowedConnector → List CellState → Type 0
+CanConnectorsPass t speeds before put connectors states =
+    (p : ℕ) → p < length states → CanPass (cell_state_at states p) (sum_by (brought t (given_before speeds before put) p) connectors) (sum_by (taken t (given_before speeds before put) p) connectors)
 
-abbrev pub HaveConnectorsPassed : (t : ℕ) → (before : List ℕ) → (put : List (Option ℕ)) → List FollowedConnector → (old new : List CellState) → Type 0
-HaveConnectorsPassed t before put connectors old new =
+abbrev pub HaveConnectorsPassed : (t : ℕ) → (speeds : List (ℕ × ℕ)) → (before : List ℕ) → (put : List (Option ℕ)) → List FollowedConnector → (old new : List CellState) → Type 0
+HaveConnectorsPassed t speeds before put connectors old new =
     (p : ℕ) → p < length old →
-    cell_state_at new p ≡ passed (cell_state_at old p) (sum_by (brought t (held_before before put) p) connectors) (sum_by (taken t (held_before before put) p) connectors)
+    cell_state_at new p ≡ passed (cell_state_at old p) (sum_by (brought t (given_before speeds before put) p) connectors) (sum_by (taken t (given_before speeds before put) p) connectors)

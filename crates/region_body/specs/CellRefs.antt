@@ -1,12 +1,14 @@
 -- Where a region finds the cells of its connectors.
-use Rattle.std.specs.Prelude.{◌==◌, ⊤, ℕ, ◌<◌, List, Option, None, length, slice_index, slice_index_or, unwrap_or, if◌then◌else◌}
+use Rattle.std.specs.Prelude.{◌==◌, ⊤, ℕ, ◌<◌, ◌+◌, Bool, List, Option, None, length, slice_index, slice_index_or, unwrap_or, if◌then◌else◌}
 use Rattle.network_file.specs.declared.connector.Connector.{Connector}
+use Rattle.step_plan.specs.Speeds.{arriving}
 use Rattle.region_cut.specs.ConnectorCells.{three_cells}
 use Rattle.region_body.specs.Joining.{IsPlacedAt}
-use Rattle.region_body.specs.CellStates.{cell_state_at}
+use Rattle.cell_sweep.specs.CellStates.{cell_state_at}
+use Rattle.cell_sweep.specs.Speeds.{ratio_at}
 use Rattle.region_body.specs.declared.cell_ref.CellRef.{CellRef}
 use Rattle.region_body.specs.declared.cell_ref.CellRef.TheVariants.{Own, Halo}
-use Rattle.region_body.specs.declared.cell_state.CellState.{CellState}
+use Rattle.cell_sweep.specs.declared.cell_state.CellState.{CellState}
 
 -- cell i is found so, among the region's own and those of its halo
 abbrev pub IsRefOf : (cells halo : List ℕ) → (i : ℕ) → CellRef → Type 0
@@ -44,6 +46,22 @@ held_in states put (Halo j) = put_at put j
 abbrev pub held_before : (before : List ℕ) → (put : List (Option ℕ)) → CellRef → ℕ
 held_before before put (Own p) = slice_index before p
 held_before before put (Halo j) = put_at put j
+
+-- the place of a cell's speed in a list that has the speeds of so many own cells, and then those of the halo
+abbrev pub speed_place : (count : ℕ) → CellRef → ℕ
+speed_place count (Own p) = p
+speed_place count (Halo j) = count + j
+
+-- of what a cell holds, what a connector is given: what comes to the end of the cell, where it sends, and else all
+abbrev pub given_of : (speeds : List (ℕ × ℕ)) → (count : ℕ) → (held : CellRef → ℕ) → (sends : Bool) → CellRef → ℕ
+given_of speeds count held sends cell = if sends then arriving (ratio_at speeds (speed_place count cell)) (held cell) else held cell
+
+-- the same of what cells hold now, and of what they held as the step began
+abbrev pub given_now : (speeds : List (ℕ × ℕ)) → List CellState → (put : List (Option ℕ)) → (sends : Bool) → CellRef → ℕ
+given_now speeds states put = given_of speeds (length states) (held_in states put)
+
+abbrev pub given_before : (speeds : List (ℕ × ℕ)) → (before : List ℕ) → (put : List (Option ℕ)) → (sends : Bool) → CellRef → ℕ
+given_before speeds before put = given_of speeds (length before) (held_before before put)
 
 -- of so many parts of a cell those at place p
 abbrev pub parts_at : CellRef → (parts p : ℕ) → ℕ

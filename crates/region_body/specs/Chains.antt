@@ -1,7 +1,8 @@
 -- Which of a region's connectors are links from one of its cells to the next, and which are not.
 use Rattle.std.specs.Prelude.{◌≡◌, ℕ, ◌+◌, ◌<◌, Bool, true, false, not, ◌==◌, ◌&&◌, All, List, nat_lt, length, slice_index, if◌then◌else◌}
 use Rattle.std.specs.List.{Contains, filter, list_any, range_with_len}
-use Rattle.network_file.specs.Connectors.{connector_at, touches}
+use Rattle.network_file.specs.Connectors.{touches}
+use Rattle.network_file.specs.Numbered.{connector_at}
 use Rattle.network_file.specs.Network.{Network}
 use Rattle.network_file.specs.declared.connector.Connector.{Connector}
 use Rattle.network_file.specs.declared.connector.Connector.TheVariants.{Link, Merge, Diverge}

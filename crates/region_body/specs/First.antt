@@ -6,7 +6,7 @@ use Rattle.flow_model.specs.Bounds.{first_at}
 use Rattle.flow_model.specs.Limits.{room_at}
 use Rattle.flow_model.specs.declared.row.Row.{Row}
 use Rattle.connector_flow.specs.Space.{IsSpaceOf}
-use Rattle.region_body.specs.declared.cell_state.CellState.{CellState}
+use Rattle.cell_sweep.specs.declared.cell_state.CellState.{CellState}
 use Rattle.region_body.specs.declared.cell_constants.CellConstants.{CellConstants}
 
 -- what never changes of cell i

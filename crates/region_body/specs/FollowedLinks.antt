@@ -1,7 +1,7 @@
 -- Links between neighbours, followed as the most that they carry changes.
 use Rattle.std.specs.Prelude.{◌≡◌, ℕ, ◌<◌, ◌≤◌, ◌⊎◌, All, List, length, slice_index_or}
-use Rattle.region_body.specs.CellStates.{cell_state_at}
-use Rattle.region_body.specs.declared.cell_state.CellState.{CellState}
+use Rattle.cell_sweep.specs.CellStates.{cell_state_at}
+use Rattle.cell_sweep.specs.declared.cell_state.CellState.{CellState}
 use Rattle.timelines.specs.Timelines.{IsSteady}
 use Rattle.timelines.specs.Links.{most_at}
 use Rattle.region_body.specs.declared.followed_link.FollowedLink.{FollowedLink}

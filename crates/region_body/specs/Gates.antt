@@ -1,7 +1,7 @@
 -- The gates among the cells, and what they demand.
 use Rattle.std.specs.Prelude.{◌≡◌, ◌==◌, ℕ, ◌<◌, ◌≤◌, List, length, slice_index, slice_index_or, if◌then◌else◌}
 use Rattle.network_file.specs.Network.{Network}
-use Rattle.signal_plan.specs.Demand.{demand_at}
+use Rattle.step_plan.specs.Demand.{demand_at}
 use Rattle.timelines.specs.Timelines.{value_at}
 use Rattle.region_body.specs.declared.gate.GatePlace.{GatePlace}
 

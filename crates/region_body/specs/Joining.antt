@@ -3,7 +3,7 @@ use Rattle.std.specs.Prelude.{◌≡◌, ◌≢◌, ◌<◌, ◌⊎◌, ℕ, ◌
 use Rattle.std.specs.List.{Contains}
 use Rattle.network_file.specs.declared.connector.Connector.{Connector}
 use Rattle.region_cut.specs.ConnectorCells.{three_cells}
-use Rattle.signal_plan.specs.Records.{PlanRecords}
+use Rattle.step_plan.specs.Records.{PlanRecords}
 use Rattle.timelines.specs.Links.{most_between}
 use Rattle.region_body.specs.declared.followed_link.FollowedLink.{FollowedLink}
 

@@ -1,16 +1,10 @@
-pub mod CellStates
-pub mod SpeedZones
-pub mod Speeds
-pub mod Sweeping
-pub mod Moving
+pub mod FollowedSpeeds
 pub mod FollowedLinks
 pub mod Chains
-pub mod SpeedFactors
 pub mod Rows
 pub mod CellRefs
 pub mod Carrying
 pub mod Gates
-pub mod Waiting
 pub mod Pausing
 pub mod Placed
 pub mod Joining

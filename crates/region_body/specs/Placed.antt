@@ -1,17 +1,17 @@
 -- The rows of some cells, kept as states in their order.
-use Rattle.std.specs.Prelude.{◌≡◌, ◌≢◌, ℕ, ◌-◌, ◌/◌, ◌^◌, ◌<◌, ◌≤◌, All, List, Option, length, map, slice_index}
+use Rattle.std.specs.Prelude.{◌≡◌, ◌≢◌, ℕ, ◌-◌, ◌/◌, ◌^◌, ◌<◌, ◌≤◌, All, List, ◌++◌, Option, length, map, slice_index}
 use Rattle.std.specs.List.{filter, range_with_len}
 use Rattle.std.specs.List.Sorted.{IsStrictlyIncreasing}
-use Rattle.network_file.specs.Connectors.{connector_at}
+use Rattle.network_file.specs.Numbered.{connector_at}
 use Rattle.network_file.specs.Cells.{is_gate_at}
 use Rattle.network_file.specs.Network.{Network}
 use Rattle.flow_model.specs.Bounds.{IsHeldInBounds, IsRowInBounds}
 use Rattle.flow_model.specs.Limits.{room_at}
 use Rattle.flow_model.specs.State.{row_at}
 use Rattle.region_body.specs.CellRefs.{put_at}
-use Rattle.region_body.specs.CellStates.{cell_state_at}
+use Rattle.cell_sweep.specs.CellStates.{cell_state_at}
 use Rattle.connector_flow.specs.Space.{IsSpaceOf}
-use Rattle.region_body.specs.declared.cell_state.CellState.{CellState}
+use Rattle.cell_sweep.specs.declared.cell_state.CellState.{CellState}
 use Rattle.timelines.specs.Timelines.{value_at}
 use Rattle.region_body.specs.FollowedLinks.{AreFollowed, IsLinkThere}
 use Rattle.region_body.specs.declared.followed_link.FollowedLink.{FollowedLink}
@@ -20,10 +20,11 @@ use Rattle.region_body.specs.Joining.{AreKnown}
 use Rattle.region_body.specs.Carrying.{AreConnectorsAmong}
 use Rattle.region_body.specs.Pausing.{IsPauseOf}
 use Rattle.region_body.specs.Rows.{IsOf, constants_at, rows_of}
-use Rattle.region_body.specs.SpeedZones.{AreZones}
-use Rattle.region_body.specs.Speeds.{AreSpeedsOf, is_slow}
+use Rattle.cell_sweep.specs.SpeedZones.{AreZones}
+use Rattle.cell_sweep.specs.Speeds.{is_slow}
+use Rattle.region_body.specs.FollowedSpeeds.{AreSpeedsOf}
 use Rattle.region_body.specs.declared.followed_speed.FollowedSpeed.{FollowedSpeed}
-use Rattle.region_body.specs.declared.speed_zone.SpeedZone.{SpeedZone}
+use Rattle.cell_sweep.specs.declared.speed_zone.SpeedZone.{SpeedZone}
 use Rattle.region_body.specs.Gates.{IsGateOf}
 use Rattle.region_body.specs.declared.gate.GatePlace.{GatePlace}
 use Rattle.region_body.specs.declared.cell_constants.CellConstants.{CellConstants}
@@ -35,7 +36,8 @@ pub record PlacedCells : Type 0 where
   pub states : List CellState
   pub constants : List CellConstants
   pub before : List ℕ
-  -- the speed at each place, where cells lie that have speed records, and how these change, none before a step
+  -- the speed at each place and then in each cell of the halo, where own cells lie that have speed records, and how speeds
+  -- change, none before a step
   pub speeds : List (ℕ × ℕ)
   pub zones : List SpeedZone
   pub speed_timelines : List FollowedSpeed
@@ -66,7 +68,7 @@ pub record ArePlaced (net : Network) (cells halo connectors : List ℕ) (t : ℕ
   pub gates : map (λ gate. gate.place) placed.gates ≡ filter (λ p. is_gate_at net.cells (slice_index cells p)) (range_with_len 0 (length cells))
   pub demands : All (IsGateOf net cells t) placed.gates
   pub links : All (IsLinkThere (length placed.states) t) placed.links
-  pub speeds : AreSpeedsOf net cells placed.speed_timelines placed.speeds t placed.speeds_until
+  pub speeds : AreSpeedsOf net (cells ++ halo) placed.speed_timelines placed.speeds t placed.speeds_until
   pub zones : AreZones (is_slow net cells) ((length cells - 1) / 4) placed.zones
   pub followed : AreFollowed (most_out net cells connectors) placed.states placed.links t
   pub pause : IsPauseOf placed.states placed.before placed.speeds placed.speeds_until placed.links placed.connectors placed.seen t placed.pause
@@ -102,6 +104,7 @@ pub record WaitThrough (t : ℕ) (placed : PlacedCells) (put : List (Option ℕ)
 pub record AreCells (net : Network) (cells halo connectors : List ℕ) : Type 0 where
   pub around : AreAround net cells connectors
   pub halo_rising : IsStrictlyIncreasing halo
+  pub halo_there : All (λ i. i < length net.cells) halo
   pub apart : (p j : ℕ) → p < length cells → j < length halo → slice_index cells p ≢ slice_index halo j
   pub there : All (λ k. k < length net.connectors) connectors
   pub known : All (λ k. AreKnown cells halo (connector_at net.connectors k)) connectors

@@ -5,8 +5,8 @@ use Rattle.network_file.specs.Cells.{is_exit_at}
 use Rattle.network_file.specs.Network.{Network}
 use Rattle.flow_model.specs.Bounds.{first_at}
 use Rattle.flow_model.specs.declared.row.Row.{Row}
-use Rattle.region_body.specs.CellStates.{cell_state_at}
-use Rattle.region_body.specs.declared.cell_state.CellState.{CellState}
+use Rattle.cell_sweep.specs.CellStates.{cell_state_at}
+use Rattle.cell_sweep.specs.declared.cell_state.CellState.{CellState}
 use Rattle.region_body.specs.declared.cell_constants.CellConstants.{CellConstants}
 
 -- what came is what it holds and what went, less what it held at first; what waited is what it held in all the steps, less what went.

@@ -1,7 +1,7 @@
 ghost use Rattle.std.specs.Prelude.{◌≡◌};
 ghost use Rattle.region_body.specs.Rows.{IsSettled, row_of};
 
-use crate::cell_state::CellState;
+use cell_sweep::CellState;
 use flow_model::Row;
 
 /// What never changes of a cell, and makes its row of its state.

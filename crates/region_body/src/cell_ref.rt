@@ -1,13 +1,13 @@
 ghost use Rattle.std.specs.Prelude.{◌≡◌, ◌<◌, ◌^◌, length};
 ghost use Rattle.std.specs.List.Sorted.{IsStrictlyIncreasing};
-ghost use Rattle.network_file.specs.Connectors.{connector_at};
+ghost use Rattle.network_file.specs.Numbered.{connector_at};
 ghost use Rattle.chain_order.specs.Order.{IsOrder};
-ghost use Rattle.region_body.specs.CellRefs.{AreRefsOf, IsRefOf, IsWithin, held_before, held_in, put_at};
+ghost use Rattle.region_body.specs.CellRefs.{AreRefsOf, IsRefOf, IsWithin, held_before, held_in, put_at, speed_place};
 ghost use Rattle.region_body.specs.Joining.{AreKnown, IsKnown};
 
-use crate::cell_state::CellState;
 use crate::cells::Cells;
 use crate::own_place::own_place;
+use cell_sweep::CellState;
 use network_file::Net;
 use region_cut::{place, three_cells};
 
@@ -41,6 +41,18 @@ impl CellRef {
         match self {
             CellRef::Own(p) => before[p as usize],
             CellRef::Halo(j) => put_at(put, j),
+        }
+    }
+
+    /// The place of its speed in a list that has the speeds of so many own cells, and then those of the halo.
+    #[inline(always)]
+    pub(crate) fn speed_place(self, count: usize) -> usize
+        requires { count < 2 ^ 63 }
+        ensures { result ≡ speed_place count self }
+    {
+        match self {
+            CellRef::Own(p) => p as usize,
+            CellRef::Halo(j) => count + j as usize,
         }
     }
 }

@@ -1,19 +1,19 @@
 ghost use Rattle.std.specs.Prelude.{◌≡◌, ◌+◌, ◌<◌, ◌≤◌, ◌^◌, ℕ, All, IfOk, length, map};
 ghost use Rattle.std.specs.List.Sorted.{IsStrictlyIncreasing};
-ghost use Rattle.network_file.specs.Connectors.{connector_at};
+ghost use Rattle.network_file.specs.Numbered.{connector_at};
 ghost use Rattle.chain_order.specs.Order.{IsOrder};
-ghost use Rattle.region_body.specs.CellStates.{cell_state_at};
+ghost use Rattle.cell_sweep.specs.CellStates.{cell_state_at};
 ghost use Rattle.region_body.specs.FollowedLinks.{AreFollowed, IsLinkThere};
 ghost use Rattle.region_body.specs.Carrying.{IsConnectorAmong};
 ghost use Rattle.region_body.specs.Chains.{AreDistinct, most_out, odd_ones};
 ghost use Rattle.region_body.specs.Joining.{AreKnown};
 
-use crate::cell_state::CellState;
 use crate::cells::Cells;
 use crate::chain::chained;
 use crate::followed_connector::{FollowedConnector, connector_of};
 use crate::followed_link::FollowedLink;
 use crate::joining::join_next;
+use cell_sweep::CellState;
 use network_file::Net;
 use no_memory::NoMemory;
 use std::alloc::Global;

@@ -1,11 +1,11 @@
 ghost use Rattle.std.specs.Prelude.{◌≡◌, ◌+◌, ◌<◌, ◌≤◌, ◌^◌, ℕ, All, IsTrue, length, sum_by};
-ghost use Rattle.region_body.specs.CellStates.{cell_state_at, with_entered};
+ghost use Rattle.cell_sweep.specs.CellStates.{cell_state_at, with_entered};
 ghost use Rattle.timelines.specs.Timelines.{value_at};
 ghost use Rattle.region_body.specs.Gates.{AreAsked, AreGatesKept, asked, demand_into};
 
-use crate::cell_state::CellState;
 use crate::gate::GatePlace;
-use signal_plan::MOST_STEPS;
+use cell_sweep::CellState;
+use step_plan::MOST_STEPS;
 
 /// What these gates demand in step `t` enters their cells.
 pub(crate) fn bring_demands(t: u64, gates: &mut [GatePlace], states: &mut [CellState])

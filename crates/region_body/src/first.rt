@@ -4,7 +4,7 @@ ghost use Rattle.network_file.specs.Cells.{is_exit_at};
 ghost use Rattle.region_body.specs.First.{AreConstantsOf, IsFirst};
 
 use crate::cell_constants::CellConstants;
-use crate::cell_state::CellState;
+use cell_sweep::CellState;
 use connector_flow::space_of;
 use flow_model::Row;
 use network_file::{Kind, Net};

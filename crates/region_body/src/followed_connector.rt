@@ -1,17 +1,21 @@
-ghost use Rattle.std.specs.Prelude.{◌≡◌, ◌≤◌, ◌<◌, ◌^◌, All, IfOk, length};
+ghost use Rattle.std.specs.Prelude.{◌≡◌, ◌≤◌, ◌<◌, ◌^◌, ℕ, All, IfOk, length};
 ghost use Rattle.std.specs.List.Sorted.{IsStrictlyIncreasing};
-ghost use Rattle.network_file.specs.Connectors.{connector_at};
+ghost use Rattle.connector_flow.specs.Limits.{sends_second};
+ghost use Rattle.network_file.specs.Numbered.{connector_at};
 ghost use Rattle.chain_order.specs.Order.{IsOrder};
-ghost use Rattle.region_body.specs.Carrying.{AreConnectorsFollowed, IsConnectorAmong, IsConnectorFollowed};
+ghost use Rattle.region_body.specs.Carrying.{AreConnectorsFollowed, IsConnectorAmong, IsConnectorFollowed, three_given, three_held};
+ghost use Rattle.region_body.specs.CellRefs.{given_of, ref_at};
 ghost use Rattle.region_body.specs.Joining.{AreKnown};
+ghost use Rattle.region_body.specs.declared.cell_ref.CellRef.{CellRef as RefValue};
 
 use crate::cell_ref::{CellRef, refs_of};
 use crate::cells::Cells;
-use connector_flow::ConnectorTimeline;
+use cell_sweep::reaching;
+use connector_flow::{ConnectorTimeline, Ratio, Rule};
 use network_file::Net;
 use no_memory::NoMemory;
-use signal_plan::MOST_STEPS;
 use std::alloc::Global;
+use step_plan::MOST_STEPS;
 
 /// A connector that isn't a link from a cell to the next.
 #[derive(Drop)]
@@ -22,6 +26,40 @@ pub(crate) struct FollowedConnector {
     pub(crate) cells: [CellRef; 3],
     /// What it carries, followed forward.
     pub(crate) timeline: ConnectorTimeline,
+}
+
+impl FollowedConnector {
+    /// What it is given where its cells hold so much: of cells that send the parts that reach their ends, of others all. The
+    /// speeds are those of so many own cells and then those of the halo; there are none where no cell has speed records.
+    #[inline(always)]
+    pub(crate) fn given(&self, held: [u64; 3], speeds: &[Ratio], count: usize) -> [u64; 3]
+        requires few { count < 2 ^ 63 }
+        ensures { (by : RefValue → ℕ) → held ≡ three_held self.now by → result ≡ three_given self.now (given_of speeds.now count by) }
+    {
+        if speeds.is_empty() {
+            return held;
+        }
+        let [first, second, third] = held;
+        let [a, _, _] = self.cells;
+        [
+            reaching(first, speeds, a.speed_place(count)),
+            self.second_given(second, speeds, count),
+            third,
+        ]
+    }
+
+    // The same of `n` parts in its second cell.
+    #[inline(always)]
+    fn second_given(&self, n: u64, speeds: &[Ratio], count: usize) -> u64
+        requires few { count < 2 ^ 63 }
+        ensures { result ≡ given_of speeds.now count (λ cell. n) (sends_second self.now.timeline.rule) (ref_at self.now.cells 1) }
+    {
+        let [_, b, _] = self.cells;
+        match self.timeline.rule() {
+            Rule::Merging => reaching(n, speeds, b.speed_place(count)),
+            Rule::Linking | Rule::Diverging => n,
+        }
+    }
 }
 
 /// Connector `k`, followed to step 0.

@@ -1,10 +1,10 @@
 ghost use Rattle.std.specs.Prelude.{◌≡◌, ◌≤◌, ◌<◌, ◌⊎◌, ℕ, All, length};
-ghost use Rattle.region_body.specs.CellStates.{cell_state_at};
+ghost use Rattle.cell_sweep.specs.CellStates.{cell_state_at};
 ghost use Rattle.timelines.specs.Links.{most_at};
 ghost use Rattle.region_body.specs.FollowedLinks.{AreFollowed, IsChanged, IsLinkThere, IsUnchanged};
 
-use crate::cell_state::CellState;
-use signal_plan::MOST_STEPS;
+use cell_sweep::CellState;
+use step_plan::MOST_STEPS;
 use timelines::LinkTimeline;
 
 /// A link between neighbours, and when the most that it carries changes next.

@@ -1,17 +1,18 @@
 ghost use Rattle.std.specs.Prelude.{◌≡◌, ◌<◌, ◌≤◌, ℕ, All, false, length};
-ghost use Rattle.signal_plan.specs.Speeds.{IsSpeed};
+ghost use Rattle.step_plan.specs.SpeedBounds.{IsSpeed};
 ghost use Rattle.timelines.specs.Timelines.{value_at};
-ghost use Rattle.region_body.specs.Speeds.{AreSpeedsInForce, AreSpeedsAsBefore, IsSpeedAsBefore, IsSpeedThere, is_listed, ratio_at};
+ghost use Rattle.cell_sweep.specs.Speeds.{ratio_at};
+ghost use Rattle.region_body.specs.FollowedSpeeds.{AreSpeedsInForce, AreSpeedsAsBefore, IsSpeedAsBefore, IsSpeedThere, is_listed};
 
-use crate::speed_factor::SpeedFactor;
-use signal_plan::MOST_STEPS;
+use connector_flow::Ratio;
+use step_plan::MOST_STEPS;
 use timelines::Timeline;
 
 /// The speed in a cell with speed records, as a ratio to that of its road, as it changes.
 #[derive(Drop)]
 pub(crate) struct FollowedSpeed {
     /// The number of its place.
-    pub(crate) place: u32,
+    pub(crate) place: usize,
     /// The timeline of the speed.
     pub(crate) timeline: Timeline<(u32, u32)>,
 }
@@ -20,7 +21,7 @@ pub(crate) struct FollowedSpeed {
 pub(crate) fn follow_speeds(
     t: u64,
     timelines: &mut [FollowedSpeed],
-    speeds: &mut [SpeedFactor],
+    speeds: &mut [Ratio],
     until: u64,
 ) -> u64
     requires in_time { t ≤ MOST_STEPS }
@@ -42,7 +43,7 @@ pub(crate) fn follow_speeds(
 }
 
 // Follows all of them.
-fn follow_all_speeds(t: u64, timelines: &mut [FollowedSpeed], speeds: &mut [SpeedFactor]) -> u64
+fn follow_all_speeds(t: u64, timelines: &mut [FollowedSpeed], speeds: &mut [Ratio]) -> u64
     requires in_time { t ≤ MOST_STEPS }
     requires there { All (IsSpeedThere (length speeds.old) t) timelines.old }
     requires speeds { All (λ one. (s : ℕ) → IsSpeed (value_at one.timeline s)) timelines.old }
@@ -55,14 +56,14 @@ fn follow_all_speeds(t: u64, timelines: &mut [FollowedSpeed], speeds: &mut [Spee
 {
     let mut until = u64::MAX;
     for m in 0..timelines.len() {
-        let p = timelines[m].place as usize;
+        let p = timelines[m].place;
         until = until.min(follow_speed(t, &mut timelines[m], &mut speeds[p]));
     }
     until
 }
 
 // Follows one of them, and tells when it may change.
-fn follow_speed(t: u64, one: &mut FollowedSpeed, speed: &mut SpeedFactor) -> u64
+fn follow_speed(t: u64, one: &mut FollowedSpeed, speed: &mut Ratio) -> u64
     requires in_time { t ≤ MOST_STEPS }
     requires step { one.old.timeline.step ≤ t }
     requires speeds { (s : ℕ) → IsSpeed (value_at one.old.timeline s) }
@@ -73,6 +74,7 @@ fn follow_speed(t: u64, one: &mut FollowedSpeed, speed: &mut SpeedFactor) -> u64
 {
     one.timeline.move_to(t);
     let now = one.timeline.now();
-    *speed = SpeedFactor::new(now.value);
+    let (num, den) = now.value;
+    *speed = Ratio::new(num, den);
     now.until
 }

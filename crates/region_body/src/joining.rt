@@ -1,10 +1,10 @@
 ghost use Rattle.std.specs.Prelude.{◌≡◌, ◌+◌, ◌<◌, ◌≤◌, ℕ, All, OnOk, length};
-ghost use Rattle.region_body.specs.CellStates.{cell_state_at};
+ghost use Rattle.cell_sweep.specs.CellStates.{cell_state_at};
 ghost use Rattle.region_body.specs.FollowedLinks.{AreFollowed, IsLinkThere};
 ghost use Rattle.region_body.specs.Joining.{Extends, IsAt};
 
-use crate::cell_state::CellState;
 use crate::followed_link::FollowedLink;
+use cell_sweep::CellState;
 use network_file::Net;
 use no_memory::NoMemory;
 use std::alloc::Global;

@@ -3,15 +3,15 @@ ghost use Rattle.std.specs.List.{filter, range_with_len};
 ghost use Rattle.network_file.specs.Cells.{is_gate_at};
 ghost use Rattle.flow_model.specs.Bounds.{IsRowInBounds};
 ghost use Rattle.flow_model.specs.State.{row_at};
-ghost use Rattle.region_body.specs.CellStates.{cell_state_at};
+ghost use Rattle.cell_sweep.specs.CellStates.{cell_state_at};
 ghost use Rattle.region_body.specs.First.{AreConstantsOf, IsFirst};
 ghost use Rattle.region_body.specs.Gates.{IsGateOf};
 ghost use Rattle.region_body.specs.Rows.{constants_at};
 
 use crate::cell_constants::CellConstants;
-use crate::cell_state::CellState;
 use crate::first::{cell_constants_of, state_of};
 use crate::gate::GatePlace;
+use cell_sweep::CellState;
 use flow_model::Row;
 use network_file::{Kind, Net};
 use no_memory::NoMemory;

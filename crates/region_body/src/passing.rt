@@ -1,10 +1,10 @@
 ghost use Rattle.std.specs.Prelude.{◌≡◌, ◌<◌, ℕ, length};
 ghost use Rattle.region_body.specs.Carrying.{CanPass};
 ghost use Rattle.region_body.specs.CellRefs.{CanBeWritten, parts_at};
-ghost use Rattle.region_body.specs.CellStates.{cell_state_at, with_entered, with_left};
+ghost use Rattle.cell_sweep.specs.CellStates.{cell_state_at, with_entered, with_left};
 
 use crate::cell_ref::CellRef;
-use crate::cell_state::CellState;
+use cell_sweep::CellState;
 
 /// So much leaves a cell. Of the halo nothing is written.
 #[inline(always)]

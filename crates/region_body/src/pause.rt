@@ -1,15 +1,14 @@
 ghost use Rattle.std.specs.Prelude.{◌≡◌, ◌<◌, ◌≤◌, ◌⊎◌, ℕ, All, IsTrue, length};
 ghost use Rattle.connector_flow.specs.Flows.{flow_at, no_flow};
-ghost use Rattle.region_body.specs.CellStates.{AreSound, cell_state_at};
+ghost use Rattle.cell_sweep.specs.CellStates.{AreSound, cell_state_at};
 ghost use Rattle.region_body.specs.Carrying.{three_held};
 ghost use Rattle.region_body.specs.CellRefs.{IsWithin, held_in, ref_at};
 ghost use Rattle.region_body.specs.Pausing.{AreIdle, IsIdleUntil};
 
-use crate::cell_state::CellState;
 use crate::followed_connector::FollowedConnector;
 use crate::followed_link::FollowedLink;
-use crate::movement::moving;
-use crate::speed_factor::SpeedFactor;
+use cell_sweep::{CellState, moving};
+use connector_flow::Ratio;
 
 /// For how long nothing moves among cells.
 #[derive(Clone, Copy)]
@@ -36,7 +35,7 @@ impl Pause {
     pub(crate) fn of(
         mover: usize,
         states: &[CellState],
-        speeds: &[SpeedFactor],
+        speeds: &[Ratio],
         speeds_until: u64,
         links: &[FollowedLink],
         connectors: &[FollowedConnector],
@@ -58,7 +57,7 @@ impl Pause {
                 owed: 0,
                 until: links_until(links, states)
                     .min(speeds_until)
-                    .min(connectors_until(connectors, states, put)),
+                    .min(connectors_until(connectors, speeds, states, put)),
                 mover,
             },
         }
@@ -79,22 +78,21 @@ fn links_until(links: &[FollowedLink], states: &[CellState]) -> u64
     until
 }
 
-// A step before which none of these connectors carries anything as long as their cells hold what they do; 0 where one does.
+// A step before which none of these connectors carries anything as long as their cells hold what they do and these speeds
+// stay; 0 where one does.
 fn connectors_until(
     connectors: &[FollowedConnector],
+    speeds: &[Ratio],
     states: &[CellState],
     put: &[Option<u64>],
 ) -> u64
     requires { All (λ connector. (m : ℕ) → m < 3 → IsWithin (length states.now) put.now (ref_at connector.cells m)) connectors.now }
-    ensures { All (IsIdleUntil states.now put.now result) connectors.now }
+    ensures { All (IsIdleUntil speeds.now states.now put.now result) connectors.now }
 {
     let mut until = u64::MAX;
     for connector in connectors {
-        until = until.min(
-            connector
-                .timeline
-                .idle_until(held_by(connector, states, put)),
-        );
+        let n = connector.given(held_by(connector, states, put), speeds, states.len());
+        until = until.min(connector.timeline.idle_until(n));
         if until == 0 {
             return 0;
         }

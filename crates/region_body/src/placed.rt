@@ -2,18 +2,18 @@ ghost use Rattle.std.specs.Prelude.{◌≡◌, ◌+◌, ◌<◌, ◌≤◌, ◌^
 ghost use Rattle.std.specs.List.Sorted.{IsStrictlyIncreasing};
 ghost use Rattle.chain_order.specs.Order.{IsOrder};
 ghost use Rattle.flow_model.specs.Bounds.{IsRowInBounds};
-ghost use Rattle.flow_model.specs.State.{occupancy, row_at, rows_after};
-ghost use Rattle.region_body.specs.CellStates.{cell_state_at};
+ghost use Rattle.flow_model.specs.State.{occupancy, row_at};
+ghost use Rattle.flow_model.specs.Stepping.{rows_after};
+ghost use Rattle.cell_sweep.specs.CellStates.{cell_state_at};
 ghost use Rattle.region_body.specs.CellRefs.{IsWithin, ref_at};
 ghost use Rattle.region_body.specs.Gates.{AreGatesKept};
 ghost use Rattle.region_body.specs.Pausing.{AreIdle};
 ghost use Rattle.region_body.specs.Placed.{AreCells, ArePlaced, CanAdvance, WaitThrough};
 ghost use Rattle.region_body.specs.Rows.{constants_at, rows_of};
-ghost use Rattle.region_body.specs.Waiting.{waited};
+ghost use Rattle.cell_sweep.specs.Waiting.{waited};
 
 use crate::carry::carry_all;
 use crate::cell_constants::CellConstants;
-use crate::cell_state::CellState;
 use crate::cells::Cells;
 use crate::connections::join_cells;
 use crate::demands::{bring_demands, nothing_demanded};
@@ -23,18 +23,16 @@ use crate::followed_speed::{FollowedSpeed, follow_speeds};
 use crate::gate::GatePlace;
 use crate::opening::{constants_of, earlier_of, gates_of, nothing_put, states_of};
 use crate::pause::{Pause, hold_the_same, note_seen};
-use crate::speed_factor::SpeedFactor;
-use crate::speed_zone::SpeedZone;
 use crate::speeds::speeds_of;
-use crate::sweep::sweep;
-use crate::waiting::{note_held, wait_all, waited};
+use cell_sweep::{CellState, SpeedZone, note_held, sweep_all, wait_all, waited};
+use connector_flow::Ratio;
 use flow_model::Row;
 use network_file::Net;
 use no_memory::NoMemory;
-use signal_plan::MOST_STEPS;
 use std::alloc::Global;
 use std::fmt;
 use std::marker::Model;
+use step_plan::MOST_STEPS;
 
 /// The rows of some cells of a network at a step, kept as states in their order.
 #[derive(Drop)]
@@ -42,9 +40,9 @@ pub struct PlacedRows {
     states: Vec<CellState>,
     constants: Vec<CellConstants>,
     before: Vec<u64>,
-    // The speed at each place, none where no cell has speed records; where cells lie that have some; and how these
-    // change, none before a step.
-    speeds: Vec<SpeedFactor>,
+    // The speed at each place and then in each cell of the halo, none where no cell has speed records; where own cells lie
+    // that have some; and how speeds change, none before a step.
+    speeds: Vec<Ratio>,
     zones: Vec<SpeedZone>,
     speed_timelines: Vec<FollowedSpeed>,
     speeds_until: u64,
@@ -62,7 +60,7 @@ impl Model for PlacedRows {
     ghost use Rattle.std.specs.Prelude.{map};
     ghost use Rattle.region_body.specs.Placed.{PlacedCells};
     ghost use Rattle.region_body.specs.Rows.{AreSettled};
-    ghost use Rattle.region_body.specs.Waiting.{waited};
+    ghost use Rattle.cell_sweep.specs.Waiting.{waited};
 
     ghost Value = { PlacedCells };
 
@@ -122,7 +120,7 @@ impl PlacedRows {
         let before = earlier_of(alloc, earlier, cells)?;
         let gates = gates_of(alloc, net, cells)?;
         let connections = join_cells(alloc, net, t, region, &mut states)?;
-        let speeds = speeds_of(alloc, net, cells)?;
+        let speeds = speeds_of(alloc, net, cells, region.halo)?;
         let seen = nothing_put(alloc, region.halo.len())?;
         Ok(PlacedRows {
             states,
@@ -287,13 +285,20 @@ impl PlacedRows {
             self.speeds_until,
         );
         self.connectors_until = follow_connectors(t, &mut self.connectors, self.connectors_until);
-        sweep(
+        sweep_all(
             &mut self.states,
             &self.speeds,
             &self.zones,
             &mut self.before,
         );
-        carry_all(t, &self.connectors, &self.before, put, &mut self.states);
+        carry_all(
+            t,
+            &self.connectors,
+            &self.speeds,
+            &self.before,
+            put,
+            &mut self.states,
+        );
         bring_demands(t, &mut self.gates, &mut self.states);
     }
 

@@ -9,11 +9,12 @@ use Rattle.std.proofs.lemmas.List.Elements.{Contains-get_or}
 use Rattle.std.proofs.lemmas.List.FromFn.{length-map-range_with_len, length-range_with_len}
 use Rattle.std.proofs.lemmas.List.Filters.{length-filter_both}
 use Rattle.network_file.specs.Cutting.{IsCutting}
-use Rattle.network_file.specs.Network.{IsNetwork, Network}
+use Rattle.network_file.specs.Network.{Network}
+use Rattle.network_file.specs.Sound.{IsNetwork}
 use Rattle.region_cut.specs.Chart.{ChartLists, IsChart, border_of, cells_in, chart_of, connectors_of, halo_at, halo_of, list_at, neighbours_of}
 use Rattle.region_cut.specs.Cuttings.{region_at, region_count}
 use Rattle.region_cut.specs.Gathered.{CanPlace, inside, is_met, met_by, outside, placed, halo_regions}
-use Rattle.region_cut.specs.Joins.{is_border, is_halo}
+use Rattle.region_cut.specs.Neighbours.{is_border, is_halo}
 use Rattle.region_cut.specs.declared.halo.Halo.{Halo}
 use Rattle.region_cut.proofs.Anys.{finds}
 use Rattle.region_cut.proofs.ChartLaws.{chart_of-IsChart}

@@ -3,8 +3,10 @@ use Rattle.std.specs.Prelude.{All, eqb}
 use Rattle.std.specs.List.{Contains, list_any}
 use Rattle.std.proofs.Common.{◌≡◌, ℕ, ◌<◌, Bool, true, List, length, get_or, ap, subst, sym, ◌∙◌}
 use Rattle.std.proofs.lemmas.List.Elements.{All-contains, Contains-get_or}
-use Rattle.network_file.specs.Connectors.{cells_of, connector_at, touches}
-use Rattle.network_file.specs.Network.{IsNetwork, IsSoundConnector, Network}
+use Rattle.network_file.specs.Connectors.{cells_of, touches}
+use Rattle.network_file.specs.Numbered.{connector_at}
+use Rattle.network_file.specs.Network.{Network}
+use Rattle.network_file.specs.Sound.{IsNetwork, IsSoundConnector}
 use Rattle.network_file.specs.declared.connector.Connector.{Connector}
 use Rattle.network_file.specs.declared.connector.Connector.TheVariants.{Link}
 use Rattle.network_file.proofs.NetworkFacts.{cells_there, read_connector}

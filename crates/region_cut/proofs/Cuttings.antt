@@ -3,7 +3,8 @@ use Rattle.std.specs.Prelude.{All}
 use Rattle.std.proofs.Common.{◌≢◌, ℕ, suc, zero, inl, inr, ◌<◌, ◌≤◌, ◌+◌, List, [], ◌∷◌, ap, get_or, length, subst, sym, arith}
 use Rattle.std.proofs.lemmas.List.Elements.{All-head, All-tail}
 use Rattle.network_file.specs.Cutting.{IsCutting, greatest}
-use Rattle.network_file.specs.Network.{IsNetwork, Network}
+use Rattle.network_file.specs.Network.{Network}
+use Rattle.network_file.specs.Sound.{IsNetwork}
 use Rattle.network_file.specs.Limits.{most_regions}
 use Rattle.region_cut.specs.Cuttings.{region_count}
 

@@ -6,12 +6,13 @@ use Rattle.std.proofs.lemmas.Bool.{eq-eqb, eqb-true}
 use Rattle.std.proofs.lemmas.List.Elements.{filter_agree}
 use Rattle.std.proofs.lemmas.List.Kept.{IsStrictlyIncreasing-filter}
 use Rattle.network_file.specs.Connectors.{touches}
-use Rattle.network_file.specs.Network.{IsNetwork, Network}
+use Rattle.network_file.specs.Network.{Network}
+use Rattle.network_file.specs.Sound.{IsNetwork}
 use Rattle.network_file.specs.declared.connector.Connector.{Connector}
 use Rattle.region_cut.specs.Chart.{border_of, halo_at, halo_of, neighbours_of}
 use Rattle.region_cut.specs.Cuttings.{region_at, region_count}
 use Rattle.region_cut.specs.Gathered.{inside, is_met, leaves_region, met_by, outside, halo_regions}
-use Rattle.region_cut.specs.Joins.{are_neighbours, is_border, is_halo, touches_region}
+use Rattle.region_cut.specs.Neighbours.{are_neighbours, is_border, is_halo, touches_region}
 use Rattle.region_cut.proofs.Anys.{apart, both, false_from_not, finds, first_of_both, found, not_false, not_same, same_tests, second_of_both}
 use Rattle.region_cut.proofs.Meetings.{border-by, border-from, crosses-from, crosses-leaves_region, halo-by, halo-from, halo-neighbours, neighbours-halo, touches-leaves_region, touches-touches_region, touches_region-cell}
 use Rattle.region_cut.proofs.Membership.{Contains-halo_of, halo_of-Contains}

@@ -4,10 +4,12 @@ use Rattle.std.specs.List.{Contains, list_any}
 use Rattle.std.proofs.Common.{◌≡◌, ◌≢◌, ℕ, ◌<◌, inl, inr, true, List, length, refl, sym, ◌∙◌}
 use Rattle.std.proofs.lemmas.Bool.{cases_Bool, eq-eqb, eqb-true}
 use Rattle.network_file.specs.Connectors.{are_joined, cells_of, touches}
-use Rattle.network_file.specs.Network.{IsNetwork, Network}
+use Rattle.network_file.specs.Network.{Network}
+use Rattle.network_file.specs.Sound.{IsNetwork}
 use Rattle.network_file.specs.declared.connector.Connector.{Connector}
 use Rattle.region_cut.specs.Cuttings.{region_at}
-use Rattle.region_cut.specs.Joins.{are_neighbours, crosses, is_border, is_halo, touches_region}
+use Rattle.region_cut.specs.Joins.{crosses}
+use Rattle.region_cut.specs.Neighbours.{are_neighbours, is_border, is_halo, touches_region}
 use Rattle.region_cut.specs.Gathered.{leaves_region}
 use Rattle.region_cut.proofs.Anys.{Contains-from_test, apart, both, false_from_not, finds, first_of_both, found, not_false, not_same, second_of_both, test_from_Contains}
 use Rattle.region_cut.proofs.ConnectorCells.{touches-there}

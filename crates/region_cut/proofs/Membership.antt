@@ -5,11 +5,11 @@ use Rattle.std.specs.List.Sorted.{IsStrictlyIncreasing}
 use Rattle.std.proofs.Common.{◌≡◌, ℕ, ◌<◌, true, List, [], ◌∷◌, length, map, get_or, refl, sym, ap, subst, ◌∙◌, arith}
 use Rattle.std.proofs.lemmas.Bool.{eq-eqb, eqb-true}
 use Rattle.std.proofs.lemmas.List.{get_or-map, get_or_default, length-map}
-use Rattle.network_file.specs.Connectors.{connector_at}
+use Rattle.network_file.specs.Numbered.{connector_at}
 use Rattle.network_file.specs.Network.{Network}
 use Rattle.region_cut.specs.Chart.{border_of, cells_in, connectors_of, halo_at, halo_of, neighbours_of}
 use Rattle.region_cut.specs.Cuttings.{region_at, region_count}
-use Rattle.region_cut.specs.Joins.{are_neighbours, is_border, is_halo, touches_region}
+use Rattle.region_cut.specs.Neighbours.{are_neighbours, is_border, is_halo, touches_region}
 use Rattle.region_cut.specs.declared.halo.Halo.{Halo}
 use Rattle.region_cut.proofs.Anys.{both, first_of_both, second_of_both}
 use Rattle.region_cut.proofs.Cuttings.{at-le-greatest}

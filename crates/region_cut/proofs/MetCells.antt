@@ -6,13 +6,15 @@ use Rattle.std.proofs.Common.{◌≡◌, ℕ, ◌<◌, ◌+◌, Bool, true, fals
 use Rattle.std.proofs.lemmas.List.{get_or_default}
 use Rattle.std.proofs.lemmas.List.Elements.{Contains-get_or}
 use Rattle.std.proofs.lemmas.List.Folds.{list_any-append, list_any_more}
-use Rattle.network_file.specs.Connectors.{cells_of, connector_at, touches}
-use Rattle.network_file.specs.Network.{IsNetwork, Network}
+use Rattle.network_file.specs.Connectors.{cells_of, touches}
+use Rattle.network_file.specs.Numbered.{connector_at}
+use Rattle.network_file.specs.Network.{Network}
+use Rattle.network_file.specs.Sound.{IsNetwork}
 use Rattle.network_file.specs.declared.connector.Connector.{Connector}
 use Rattle.network_file.specs.declared.connector.Connector.TheVariants.{Link}
 use Rattle.region_cut.specs.Chart.{connectors_of}
 use Rattle.region_cut.specs.Gathered.{is_met, leaves_region, met_by}
-use Rattle.region_cut.specs.Joins.{touches_region}
+use Rattle.region_cut.specs.Neighbours.{touches_region}
 use Rattle.region_cut.proofs.Anys.{Contains-from_test, both, finds, first_of_both, found, same_tests, second_of_both, test_from_Contains}
 use Rattle.region_cut.proofs.ConnectorCells.{touches-there}
 use Rattle.region_cut.proofs.Ranges.{Contains-filter_range, filter_range-Contains, filter_range_is}

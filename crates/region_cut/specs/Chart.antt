@@ -2,11 +2,11 @@
 use Rattle.std.specs.Prelude.{◌≡◌, ◌≢◌, ℕ, ◌==◌, ◌&&◌, ◌<◌, List, [], length, map, slice_index, slice_index_or}
 use Rattle.std.specs.List.{Contains, filter, position_or_len, range_with_len}
 use Rattle.std.specs.List.Sorted.{IsStrictlyIncreasing}
-use Rattle.network_file.specs.Connectors.{connector_at}
+use Rattle.network_file.specs.Numbered.{connector_at}
 use Rattle.network_file.specs.Cutting.{IsCutting}
 use Rattle.network_file.specs.Network.{Network}
 use Rattle.region_cut.specs.Cuttings.{region_at, region_count}
-use Rattle.region_cut.specs.Joins.{are_neighbours, is_border, is_halo, touches_region}
+use Rattle.region_cut.specs.Neighbours.{are_neighbours, is_border, is_halo, touches_region}
 use Rattle.region_cut.specs.declared.halo.Halo.{Halo}
 
 -- the cells of region r

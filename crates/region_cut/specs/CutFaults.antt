@@ -1,7 +1,7 @@
 -- When a list is no cutting of a network.
 use Rattle.std.specs.Prelude.{ℕ, ◌==◌, nat_lt, List, length, Result, Ok}
 use Rattle.std.specs.List.{list_all}
-use Rattle.network_file.specs.Checks.{◌>>◌, must}
+use Rattle.record_fields.specs.Checks.{◌>>◌, must}
 use Rattle.network_file.specs.Cutting.{has_no_gap}
 use Rattle.network_file.specs.Network.{Network}
 use Rattle.network_file.specs.Limits.{most_regions}

@@ -6,7 +6,7 @@ use Rattle.network_file.specs.Network.{Network}
 use Rattle.network_file.specs.declared.connector.Connector.{Connector}
 use Rattle.region_cut.specs.Chart.{list_at}
 use Rattle.region_cut.specs.Cuttings.{region_at}
-use Rattle.region_cut.specs.Joins.{touches_region}
+use Rattle.region_cut.specs.Neighbours.{touches_region}
 use Rattle.region_cut.specs.declared.halo.Halo.{Halo}
 
 -- the connector touches a cell of another region than r

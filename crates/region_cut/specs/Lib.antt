@@ -2,6 +2,7 @@ pub mod Cuttings
 pub mod ConnectorCells
 pub mod CutFaults
 pub mod Joins
+pub mod Neighbours
 pub mod Chart
 pub mod Gathered
 pub mod LawfulSteps

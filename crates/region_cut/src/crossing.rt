@@ -1,5 +1,5 @@
 ghost use Rattle.std.specs.Prelude.{◌≡◌, ◌<◌, length};
-ghost use Rattle.network_file.specs.Connectors.{connector_at};
+ghost use Rattle.network_file.specs.Numbered.{connector_at};
 ghost use Rattle.region_cut.specs.Joins.{crosses};
 
 use crate::connector_cells::three_cells;

@@ -6,7 +6,7 @@ use mathlib.Core.Option.{none}
 use Rattle.atomic_table.specs.Table.{Allows, keeps, step}
 use Rattle.region_cut.specs.Chart.{IsChart}
 use Rattle.region_cut.specs.Cuttings.{region_count}
-use Rattle.region_cut.specs.Joins.{are_neighbours}
+use Rattle.region_cut.specs.Neighbours.{are_neighbours}
 use Rattle.border_rows.specs.Kinds.{cleared, found_short}
 use Rattle.border_rows.specs.Places.{step_place, widths_of}
 use Rattle.border_rows.specs.Standing.{IsStanding}

@@ -3,7 +3,8 @@ use Rattle.std.specs.Prelude.{All, slice_index}
 use Rattle.std.specs.List.{Contains}
 use Rattle.std.proofs.Common.{◌≡◌, ℕ, ◌+◌, ◌<◌, ◌≤◌, ◌%◌, List, length, get_or, refl, sym, ap, ◌∙◌, arith}
 use Rattle.std.proofs.lemmas.List.Elements.{Contains-get_or}
-use Rattle.network_file.specs.Network.{IsNetwork, Network}
+use Rattle.network_file.specs.Network.{Network}
+use Rattle.network_file.specs.Sound.{IsNetwork}
 use Rattle.flow_model.specs.State.{occupancy}
 use Rattle.region_cut.specs.Chart.{ChartLists, IsChart, chart_of, list_at}
 use Rattle.region_cut.specs.Cuttings.{region_at, region_count}
@@ -12,7 +13,8 @@ use Rattle.region_step.specs.Grid.{grid_held}
 use Rattle.region_step.specs.Region.{RegionValue}
 use Rattle.region_step.specs.Setup.{SetupValue}
 use Rattle.region_step.specs.Standing.{AllStand}
-use Rattle.region_step.specs.Start.{StartLists, start_of}
+use Rattle.region_step.specs.Start.{StartLists}
+use Rattle.region_step.specs.Starting.{start_of}
 use Rattle.region_step.proofs.Grids.{grid_held-earlier, grid_held-started, grid_row-start}
 use Rattle.region_step.proofs.Ground.{ground}
 use Rattle.atomic_table.specs.Table.{opening}

@@ -6,7 +6,7 @@ use lib.ListN.{get_elem?}
 use Rattle.atomic_table.specs.Table.{Allows, keeps, step}
 use Rattle.region_cut.specs.Chart.{IsChart}
 use Rattle.region_cut.specs.Cuttings.{region_count}
-use Rattle.region_cut.specs.Joins.{are_neighbours}
+use Rattle.region_cut.specs.Neighbours.{are_neighbours}
 use Rattle.region_step.specs.Grid.{grid_held}
 use Rattle.border_rows.specs.Places.{HasRowWord, row_place, width_at, widths_of}
 use Rattle.border_rows.specs.Standing.{FieldState, IsStanding}

@@ -5,10 +5,11 @@ use Rattle.std.proofs.Common.{◌≡◌, ◌≢◌, ℕ, ◌<◌, ◌≤◌, ◌
 use Rattle.std.proofs.lemmas.Bool.{cases_eq, cases_lt}
 use Rattle.std.proofs.lemmas.List.{ext_get_or, get_or-map, get_or_default, get_or-set_other, get_or-set_same, length-map, length-set, length-replicate}
 use Rattle.std.proofs.lemmas.List.Elements.{Contains-get_or}
-use Rattle.network_file.specs.Network.{IsNetwork, Network}
+use Rattle.network_file.specs.Network.{Network}
+use Rattle.network_file.specs.Sound.{IsNetwork}
 use Rattle.region_cut.specs.Chart.{ChartLists, chart_of, list_at}
 use Rattle.region_cut.specs.Cuttings.{region_at, region_count}
-use Rattle.region_cut.specs.Joins.{are_neighbours}
+use Rattle.region_cut.specs.Neighbours.{are_neighbours}
 use Rattle.region_cut.specs.LawfulSteps.{AreLawful}
 use Rattle.region_cut.specs.declared.halo.Halo.{Halo}
 use Rattle.region_cut.proofs.ChartParts.{chart-neighbours}
@@ -21,7 +22,8 @@ use Rattle.region_step.specs.Laws.{grid_state, with_halo}
 use Rattle.region_step.specs.Opened.{IsIn, halo_cells}
 use Rattle.region_step.specs.Region.{RegionState, RegionValue}
 use Rattle.region_step.specs.Standing.{Stands}
-use Rattle.region_step.specs.Start.{Fits, StartLists, start_of}
+use Rattle.region_step.specs.Start.{StartLists}
+use Rattle.region_step.specs.Starting.{Fits, start_of}
 use Rattle.region_step.proofs.Grids.{held_in_bounds}
 use Rattle.region_step.proofs.GridStates.{grid_state-number, grid_state-put}
 use Rattle.region_step.proofs.Ground.{ground}

@@ -1,4 +1,5 @@
 pub mod Closing
+pub mod CutRun
 pub mod FieldView
 pub mod FirstWords
 pub mod Gathering

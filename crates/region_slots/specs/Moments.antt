@@ -1,17 +1,10 @@
 -- What an observer is told of, and what it was told of the steps that were published.
-use Rattle.std.specs.Prelude.{◌⊎◌, ℕ, ◌-◌, List, Bool}
+use Rattle.std.specs.Prelude.{◌⊎◌, ℕ, ◌-◌, List}
 use Rattle.std.specs.List.{Contains}
-use Rattle.network_file.specs.Network.{Network}
 use Rattle.region_step.specs.Setup.{SetupValue}
-use Rattle.region_step.specs.Start.{StartLists}
 use Rattle.border_rows.specs.declared.view.PublishedStep.{PublishedStep}
-
--- a run of a network in a cutting: where its regions start, and every how many steps they are recorded
-pub record CutRun : Type 0 where
-  pub net : Network
-  pub cut : List ℕ
-  pub start : StartLists
-  pub every : ℕ
+use Rattle.region_slots.specs.declared.shot.Shot.{Shot}
+use Rattle.region_slots.specs.CutRun.{CutRun}
 
 -- the run that a field is opened for
 abbrev pub cut_run : SetupValue → CutRun
@@ -23,11 +16,16 @@ pub record MomentValue : Type 0 where
   pub region : ℕ
   pub step : ℕ
 
--- the steps of all regions of a run, as a watcher has seen them who is about to take a snapshot, or is done with it
+-- the steps of all regions of a run, as a watcher has seen them who is about to take a snapshot
 pub record SightValue : Type 0 where
   pub run : CutRun
   pub seen : List ℕ
-  pub done : Bool
+
+-- the steps of all regions of a run, as a watcher has seen them who is done with its snapshot, and what came of that
+pub record ShownValue : Type 0 where
+  pub run : CutRun
+  pub seen : List ℕ
+  pub shot : Shot
 
 -- each step that stands in the new log and not in the old one was told: its region as held at the step before, and as freed
 -- at this one

@@ -2,7 +2,7 @@
 use Rattle.std.specs.Prelude.{◌≡◌, ◌≢◌, ℕ, ◌+◌, ◌%◌, ◌<◌, ◌≤◌, List, [], ◌∷◌, true, false, length, max, slice_index}
 use Rattle.std.specs.List.{Contains}
 use Rattle.region_cut.specs.Cuttings.{region_count}
-use Rattle.region_cut.specs.Joins.{are_neighbours}
+use Rattle.region_cut.specs.Neighbours.{are_neighbours}
 use Rattle.region_cut.specs.LawfulSteps.{AreLawful}
 use Rattle.region_step.specs.Grid.{grid_held}
 use Rattle.region_step.specs.Region.{RegionValue}

@@ -3,7 +3,7 @@ use Rattle.std.specs.Prelude.{◌≡◌, ℕ, ◌+◌, ◌<◌, ◌≤◌, List,
 use Rattle.flow_model.specs.Bounds.{KeepsRooms}
 use Rattle.flow_model.specs.State.{row_at, state_at}
 use Rattle.region_cut.specs.Cuttings.{region_at, region_count}
-use Rattle.region_step.specs.Start.{IsTrueStart}
+use Rattle.region_step.specs.Starting.{IsTrueStart}
 use Rattle.snapshot.specs.Rooms.{IsRoomFor, RoomValue}
 use Rattle.snapshot.specs.Shots.{KeepsBooks}
 use Rattle.snapshot.specs.Snapshots.{IsSnapshot}

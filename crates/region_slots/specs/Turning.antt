@@ -1,7 +1,7 @@
 -- What the parts of a turn leave.
 use Rattle.std.specs.Prelude.{◌≡◌, ℕ, ◌+◌, ◌<◌, ◌≤◌, [], ◌∷◌, ◌++◌, Some, None, true, length, max, slice_index, slice_index_or}
 use Rattle.std.specs.List.{Contains}
-use Rattle.region_cut.specs.Joins.{are_neighbours}
+use Rattle.region_cut.specs.Neighbours.{are_neighbours}
 use Rattle.region_step.specs.Grid.{grid_held}
 use Rattle.region_step.specs.Laws.{grid_state}
 use Rattle.region_step.specs.Opened.{IsIn, halo_cells}

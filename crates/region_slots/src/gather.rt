@@ -162,7 +162,7 @@ impl<'a> Field<'a> {
         let mut left = count;
         while left > 0 {
             left -= 1;
-            self.free(seat, left);
+            self.release_gathered(seat, left);
         }
     }
 }

@@ -1,33 +1,42 @@
-use crate::moment::{Moment, Sight};
+use crate::freed::Freed;
+use crate::sight::{Watched, Watching};
+use crate::taken::Taken;
 
-/// Whom a shared run tells of its moments. Each call returns; it may act on the run through means of its own, and so can hold
-/// a run at a chosen moment. What was told to whom no contract can see but by these facts, which only the calls give, and only
-/// a field has moments to call them with.
+/// Whom a run tells of its moments as they come. Each call returns. It may act on the run through means of its own, and so can
+/// hold it at a chosen moment. Ghost facts say what the observer was told, and only its calls give them. Each call uses up a
+/// token. A field, the state that the workers of a run share, alone makes tokens, each when its moment comes.
 pub trait Observer: Sync {
-    ghost use Rattle.std.specs.Prelude.{ℕ, List, Bool};
-    ghost use Rattle.region_slots.specs.Moments.{CutRun};
+    ghost use Rattle.std.specs.Prelude.{ℕ, List};
+    ghost use Rattle.region_slots.specs.CutRun.{CutRun};
+    ghost use Rattle.region_slots.specs.declared.shot.Shot.{Shot};
 
     // It was told that a region of a run was taken, standing at a step.
     ghost told_held: { Self → CutRun → (region step : ℕ) → Type 0 };
 
-    // It was told that a region of a run was freed, standing at a step.
+    // It was told that a region of a run was freed, then standing at this step, one past that at which it was taken.
     ghost told_freed: { Self → CutRun → (region step : ℕ) → Type 0 };
 
-    // It was told that a watcher of a run, who has seen the regions at these steps, is about to take its snapshot,
-    // or is done with it.
-    ghost told_watched: { Self → CutRun → (seen : List ℕ) → (done : Bool) → Type 0 };
+    // It was told that a watcher of a run, who has seen the regions at these steps, is about to take its snapshot.
+    ghost told_watching: { Self → CutRun → (seen : List ℕ) → Type 0 };
 
-    /// The region was taken.
-    fn held(&self, moment: &Moment)
-        ensures { told_held self.now moment.now.run moment.now.region moment.now.step };
+    // It was told what came of the snapshot of a watcher, who has then seen the regions at these steps.
+    ghost told_watched: { Self → CutRun → (seen : List ℕ) → Shot → Type 0 };
 
-    /// The region was freed.
-    fn freed(&self, moment: &Moment)
-        ensures { told_freed self.now moment.now.run moment.now.region moment.now.step };
+    /// The region was taken, and is worked at.
+    fn held(&self, taken: Taken)
+        ensures { told_held self.now taken.entry.run taken.entry.region taken.entry.step };
 
-    /// A watcher is about to take its snapshot, or is done with it.
-    fn watched(&self, sight: &Sight)
-        ensures { told_watched self.now sight.now.run sight.now.seen sight.now.done };
+    /// The region was freed a step on.
+    fn freed(&self, freed: Freed)
+        ensures { told_freed self.now freed.entry.run freed.entry.region freed.entry.step };
+
+    /// A watcher is about to take its snapshot.
+    fn watching(&self, watching: Watching)
+        ensures { told_watching self.now watching.entry.run watching.entry.seen };
+
+    /// A watcher is done with its snapshot.
+    fn watched(&self, watched: Watched)
+        ensures { told_watched self.now watched.entry.run watched.entry.seen watched.entry.shot };
 }
 
 /// The observer that lets every moment pass.
@@ -41,11 +50,15 @@ impl Observer for NoObserver {
 
     ghost told_freed = { λ observer run region step. ⊤ };
 
-    ghost told_watched = { λ observer run seen done. ⊤ };
+    ghost told_watching = { λ observer run seen. ⊤ };
 
-    fn held(&self, moment: &Moment) {}
+    ghost told_watched = { λ observer run seen shot. ⊤ };
 
-    fn freed(&self, moment: &Moment) {}
+    fn held(&self, taken: Taken) {}
 
-    fn watched(&self, sight: &Sight) {}
+    fn freed(&self, freed: Freed) {}
+
+    fn watching(&self, watching: Watching) {}
+
+    fn watched(&self, watched: Watched) {}
 }

@@ -1,4 +1,6 @@
 use crate::field::Field;
+use crate::freed::Freed;
+use crate::observer::Observer;
 use atomic_table::Seat;
 use border_rows::View;
 use network_file::Net;
@@ -8,7 +10,7 @@ use region_step::Region;
 impl<'a> Field<'a> {
     ghost use Rattle.std.specs.Prelude.{◌≡◌, ◌+◌, ◌<◌, ◌≤◌, ℕ, ◌∷◌, true, Some, None, length, slice_index, slice_set};
     ghost use Rattle.region_cut.specs.Chart.{list_at};
-    ghost use Rattle.region_cut.specs.Joins.{are_neighbours};
+    ghost use Rattle.region_cut.specs.Neighbours.{are_neighbours};
     ghost use Rattle.border_rows.specs.Kinds.{freed, published};
     ghost use Rattle.border_rows.specs.declared.view.Hold.{Hold};
     ghost use Rattle.region_cut.specs.Cuttings.{region_count};
@@ -19,6 +21,7 @@ impl<'a> Field<'a> {
     ghost use Rattle.border_rows.specs.Places.{width_at, widths_of};
     ghost use Rattle.border_rows.specs.Words.{border_cell};
     ghost use Rattle.region_slots.specs.FieldView.{HasSeenInTime, IsSeatOf, IsWorkingAt};
+    ghost use Rattle.region_slots.specs.Moments.{cut_run};
     ghost use Rattle.region_slots.specs.Turning.{HasWritten, IsAt, IsCleared, IsTold, field_held, wrote_many, HasFallenShort, HasLooked};
 
     /// Tells the region in the seat's slot what a cell of its halo holds.
@@ -142,8 +145,15 @@ impl<'a> Field<'a> {
         None
     }
 
-    /// Takes the region held last, whose neighbours are cleared, through its step, publishes it and gives it back.
-    pub(crate) fn rises(&self, seat: &mut Seat<Region, View<'static>>, region: u32, step: u64)
+    /// Takes the region held last, whose neighbours are cleared and of which the observer was told, through its step,
+    /// publishes it and gives the region back.
+    pub(crate) fn rises<'f, W: Observer>(
+        &'f self,
+        seat: &mut Seat<Region, View<'static>>,
+        region: u32,
+        step: u64,
+        observer: &W,
+    ) -> Freed<'f, 'a>
         requires seat { IsSeatOf self.now seat.old }
         requires there { region < region_count self.now.terms.setup.now.chart.cut }
         requires in_time { step < self.now.terms.setup.now.net.steps }
@@ -153,10 +163,12 @@ impl<'a> Field<'a> {
         requires slot { (state : RegionValue) × (seat.old.me.1 ≡ (region, state) ∷ rest seat.old.me.1)
             × Stands self.now.terms.setup.now region step state }
         requires started { slice_index self.now.terms.setup.now.start.steps region ≤ step }
+        requires told { W.told_held observer.now (cut_run self.now.terms.setup.now) region step }
         ensures same { (seat.new.id ≡ seat.old.id) × (seat.new.table_id ≡ seat.old.table_id) }
         ensures risen { seat.new.me ≡ (freed (published (wrote_many seat.old.me.0 (width_at (widths_of self.now.terms.setup.now.chart) region)) region (step + 1)), rest seat.old.me.1) }
         ensures later { slice_index seat.old.me.0.seen region ≤ step + 1 }
         ensures in_time { HasSeenInTime self.now.terms seat.new.me.0 }
+        ensures freed { result ≡ record { run = cut_run self.now.terms.setup.now; region = region; step = step + 1 } }
     {
         let net: &Net = self.layout.net();
         let _steps = net.steps;
@@ -164,6 +176,6 @@ impl<'a> Field<'a> {
         self.advances(seat, region, step);
         self.fills(seat, region, step + 1);
         self.publish_step(seat, region, step + 1);
-        self.free(seat, region);
+        self.release_risen(seat, region, step, observer)
     }
 }

@@ -1,6 +1,6 @@
 use crate::field::{Field, Pass};
-use crate::moment::Sight;
 use crate::observer::Observer;
+use crate::sight::{Watched, Watching};
 use atomic_table::Seat;
 use border_rows::View;
 use region_step::Region;
@@ -11,12 +11,12 @@ use snapshot::ShotRoom;
 pub enum Shot {
     /// The room shows all regions.
     Taken,
-    /// Another seat had this region at each of the tries, and the room is as it was.
+    /// Someone else had this region at each of the tries, and the room is as it was.
     Busy { region: u32 },
 }
 
 impl<'a> Field<'a> {
-    ghost use Rattle.std.specs.Prelude.{◌≡◌, ◌≤◌, false, true};
+    ghost use Rattle.std.specs.Prelude.{◌≡◌, ◌≤◌};
     ghost use Rattle.region_cut.specs.Cuttings.{region_count};
     ghost use Rattle.snapshot.specs.Rooms.{IsRoomFor};
     ghost use Rattle.region_slots.specs.FieldView.{HasCounts, HasSeenInTime, IsIdle, IsPassOf, IsSeatOf};
@@ -48,11 +48,12 @@ impl<'a> Field<'a> {
         requires tries { 1 ≤ tries }
         ensures belongs { IsPassOf self.now pass.new × (pass.new.id ≡ pass.old.id) }
         ensures shot { IsShotOf self.now.terms tries pass.old.knows pass.new.knows room.old room.new result }
-        ensures told { W.told_watched observer.now (cut_run self.now.terms.setup.now) pass.old.knows.seen false × W.told_watched observer.now (cut_run self.now.terms.setup.now) pass.new.knows.seen true }
+        ensures told_before { W.told_watching observer.now (cut_run self.now.terms.setup.now) pass.old.knows.seen }
+        ensures told_after { W.told_watched observer.now (cut_run self.now.terms.setup.now) pass.new.knows.seen result }
     {
-        observer.watched(&Sight::of(&*self, pass, false));
+        observer.watching(Watching::before(&*self, pass));
         let shot = self.shot(pass, room, tries);
-        observer.watched(&Sight::of(&*self, pass, true));
+        observer.watched(Watched::after(&*self, pass, shot));
         shot
     }
 

@@ -1,15 +1,15 @@
 use crate::field::Field;
-use crate::plays::{Claim, Compare, Free, Learn, Publish, ReadBorder, Write};
+use crate::plays::{Claim, Compare, Learn, Publish, ReadBorder, Write};
 use atomic_table::Seat;
 use border_rows::View;
 use region_step::Region;
 
-// The atomic steps of a turn, each by itself.
+// The atomic steps of a turn, each by itself, but for the last one, which gives the region back.
 impl<'a> Field<'a> {
     ghost use Rattle.std.specs.Prelude.{◌≡◌, ◌≢◌, ◌+◌, ◌%◌, ◌<◌, ◌≤◌, ◌↔◌, ℕ, List, [], ◌∷◌, IsTrue, true, false, length, slice_index, if◌then◌else◌};
     ghost use Rattle.std.specs.List.{Contains};
     ghost use Rattle.region_cut.specs.Cuttings.{region_count};
-    ghost use Rattle.region_cut.specs.Joins.{are_neighbours};
+    ghost use Rattle.region_cut.specs.Neighbours.{are_neighbours};
     ghost use Rattle.region_step.specs.Grid.{grid_held};
     ghost use Rattle.region_step.specs.Region.{RegionValue};
     ghost use Rattle.region_step.specs.Standing.{Stands};
@@ -136,20 +136,5 @@ impl<'a> Field<'a> {
         self.table
             .shared
             .store::<Publish>(seat, word as usize, step);
-    }
-
-    /// Gives the region held last back, with its state at the step that it has published.
-    pub(crate) fn free(&self, seat: &mut Seat<Region, View<'static>>, region: u32)
-        requires seat { IsSeatOf self.now seat.old }
-        requires there { region < region_count self.now.terms.setup.now.chart.cut }
-        requires state { (hold : Hold) × (later : List Hold) × (state : RegionValue) × (others : List (ℕ × RegionValue)) × (seat.old.me.0.holds ≡ hold ∷ later) × (hold.region ≡ region)
-            × (hold.known ≡ true) × (seat.old.me.1 ≡ (region, state) ∷ others)
-            × Stands self.now.terms.setup.now region (if hold.published then hold.step + 1 else hold.step) state }
-        ensures same { (seat.new.id ≡ seat.old.id) × (seat.new.table_id ≡ seat.old.table_id) }
-        ensures given { seat.new.me ≡ (freed seat.old.me.0, rest seat.old.me.1) }
-        ensures in_time { HasSeenInTime self.now.terms seat.old.me.0 }
-    {
-        let word = self.places.claim(region);
-        self.table.shared.store::<Free>(seat, word as usize, 0);
     }
 }

@@ -1,6 +1,6 @@
 use crate::field::{Field, Pass};
-use crate::moment::Moment;
 use crate::observer::Observer;
+use crate::taken::Taken;
 use atomic_table::Seat;
 use border_rows::View;
 use region_step::Region;
@@ -27,8 +27,9 @@ impl<'a> Field<'a> {
     ghost use Rattle.region_slots.specs.Turning.{IsBehind, IsMoved, IsWithin, took_at};
     ghost use Rattle.region_slots.specs.declared.turn.Turn.TheVariants.{Behind, Ended, Held, Moved};
 
-    /// A turn on a region: it is taken, and where it stands below the goal and no neighbour stands a step lower it is
-    /// taken through its step, and the observer is told. Then it is free again.
+    /// A turn on a region: it is taken, and where it stands below the goal the observer is told so. Where no neighbour stands a
+    /// step lower it is taken through its step. Then it is free again, and where it was taken through its step the observer is
+    /// told so.
     pub fn turn<W: Observer>(&self, pass: &mut Pass, region: u32, goal: u64, observer: &W) -> Turn
         requires belongs { IsPassOf self.now pass.old }
         requires there { region < region_count self.now.terms.setup.now.chart.cut }
@@ -74,18 +75,19 @@ impl<'a> Field<'a> {
         if !self.try_claim(seat, region) {
             return Turn::Held;
         }
-        let step = self.load_own_step(seat, region);
+        let taken = Taken::learn(self, seat, region);
+        let step = taken.step();
         if goal <= step {
-            self.free(seat, region);
+            self.pass_over(seat, region, taken);
             return Turn::Ended { step };
         }
-        observer.held(&Moment::taken(self, seat, region, step));
+        observer.held(taken);
         if let Some((neighbour, s)) = self.clears(seat, region, step) {
-            self.free(seat, region);
+            self.release(seat, region, step, observer);
             return Turn::Behind { neighbour, step: s };
         }
-        self.rises(seat, region, step);
-        observer.freed(&Moment::published(self, seat, region, step + 1));
+        let freed = self.rises(seat, region, step, observer);
+        observer.freed(freed);
         Turn::Moved { step: step + 1 }
     }
 }

@@ -4,9 +4,11 @@ use Rattle.std.proofs.Common.{◌≡◌, ℕ, suc, ◌<◌, ◌≤◌, ◌+◌, 
 use Rattle.std.proofs.lemmas.List.{length-append, length-map, length-replicate}
 use Rattle.std.proofs.lemmas.List.Elements.{Contains-get_or}
 use Rattle.std.proofs.Math.Nat.{mul-suc}
-use Rattle.network_file.specs.Network.{IsNetwork, Network}
+use Rattle.network_file.specs.Network.{Network}
+use Rattle.network_file.specs.Sound.{IsNetwork}
 use Rattle.flow_model.specs.Bounds.{IsRowInBounds}
-use Rattle.flow_model.specs.State.{occupancy, row_at, rows_after}
+use Rattle.flow_model.specs.State.{occupancy, row_at}
+use Rattle.flow_model.specs.Stepping.{rows_after}
 use Rattle.flow_model.specs.declared.row.Row.{Row}
 use Rattle.flow_model.proofs.States.{next_row-in_bounds}
 use Rattle.region_cut.specs.Chart.{ChartLists, chart_of, list_at}
@@ -15,7 +17,8 @@ use Rattle.region_body.proofs.Whole.{length-rows_after, row_at-rows_after}
 use Rattle.region_step.specs.Ordered.{AreOrdered, CanStep, OrderedCells, before_in, rows_in}
 use Rattle.region_step.specs.Advance.{HasHaloPut, HasRowsInBounds, advanced, known, next_rows_of}
 use Rattle.region_step.specs.Opened.{IsIn, halo_cells}
-use Rattle.region_step.specs.Recording.{is_recorded, note_of, notes_of, recorded_after}
+use Rattle.region_step.specs.Recording.{is_recorded, note_of}
+use Rattle.region_step.specs.Noting.{notes_of, recorded_after}
 use Rattle.region_step.specs.Region.{RegionState, RegionValue}
 use Rattle.region_step.specs.declared.note.Note.{Note}
 use Rattle.region_step.proofs.Ground.{ground}

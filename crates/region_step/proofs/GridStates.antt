@@ -10,9 +10,11 @@ use Rattle.std.proofs.lemmas.List.Elements.{Contains-get_or, filter-append}
 use Rattle.std.proofs.lemmas.List.FromFn.{get_or-map-range_with_len, length-map-range_with_len}
 use Rattle.std.proofs.Common.{zero-add}
 use Rattle.network_file.specs.Connectors.{are_joined}
-use Rattle.network_file.specs.Network.{IsNetwork, Network}
+use Rattle.network_file.specs.Network.{Network}
+use Rattle.network_file.specs.Sound.{IsNetwork}
 use Rattle.flow_model.specs.Rows.{empty_row, next_row}
-use Rattle.flow_model.specs.State.{row_at, rows_after}
+use Rattle.flow_model.specs.State.{row_at}
+use Rattle.flow_model.specs.Stepping.{rows_after}
 use Rattle.flow_model.specs.declared.row.Row.{Row}
 use Rattle.flow_model.proofs.Locality.{next_row-local}
 use Rattle.region_cut.specs.Chart.{ChartLists, chart_of, list_at}
@@ -22,9 +24,11 @@ use Rattle.region_step.specs.Advance.{advanced, known}
 use Rattle.region_step.specs.Grid.{grid_before, grid_held, grid_row}
 use Rattle.region_step.specs.Laws.{grid_rows, grid_state, grid_trail, with_halo}
 use Rattle.region_step.specs.Opened.{halo_cells}
-use Rattle.region_step.specs.Recording.{is_recorded, notes_of, recorded}
+use Rattle.region_step.specs.Recording.{is_recorded, recorded}
+use Rattle.region_step.specs.Noting.{notes_of}
 use Rattle.region_step.specs.Region.{RegionState}
-use Rattle.region_step.specs.Start.{StartLists, start_of}
+use Rattle.region_step.specs.Start.{StartLists}
+use Rattle.region_step.specs.Starting.{start_of}
 use Rattle.region_step.specs.declared.note.Note.{Note}
 use Rattle.region_step.proofs.Grids.{grid_before-next, grid_before-start, grid_held-started, grid_row-next, grid_row-start}
 use Rattle.region_step.proofs.Ground.{ground}

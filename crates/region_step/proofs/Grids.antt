@@ -3,7 +3,8 @@ use Rattle.std.specs.Prelude.{◌⊎◌, nat_le, slice_index}
 use Rattle.std.proofs.Common.{◌≡◌, ◌≢◌, ℕ, zero, suc, add-one, ◌<◌, ◌≤◌, ◌+◌, inl, inr, true, false, List, length, refl, sym, ap, subst, ◌∙◌, arith}
 use Rattle.std.proofs.lemmas.Bool.{cases_lt, le-leb, lt-leb}
 use Rattle.network_file.specs.Connectors.{are_joined}
-use Rattle.network_file.specs.Network.{IsNetwork, Network}
+use Rattle.network_file.specs.Network.{Network}
+use Rattle.network_file.specs.Sound.{IsNetwork}
 use Rattle.flow_model.specs.Bounds.{IsHeldInBounds, IsRowInBounds}
 use Rattle.flow_model.specs.Rows.{next_row}
 use Rattle.flow_model.specs.State.{occupancy, row_at, state_at}
@@ -14,7 +15,8 @@ use Rattle.region_cut.specs.LawfulSteps.{AreLawful}
 use Rattle.region_cut.proofs.Meetings.{halo-border, joined-halo, joined-neighbours, joined-there, neighbours-sym}
 use Rattle.region_step.specs.Grid.{grid_before, grid_held, grid_row}
 use Rattle.region_step.specs.Laws.{AreTheRecurrences, StayInBounds}
-use Rattle.region_step.specs.Start.{Fits, IsTrueStart, StartLists, start_of}
+use Rattle.region_step.specs.Start.{StartLists}
+use Rattle.region_step.specs.Starting.{Fits, IsTrueStart, start_of}
 
 -- a step is past or before another
 past_or_before : (s t : ℕ) → (s ≤ t) ⊎ (t < s)

@@ -7,14 +7,16 @@ use Rattle.std.proofs.lemmas.List.{get_or-map, length-map}
 use Rattle.std.proofs.lemmas.List.Elements.{Contains-get_or}
 use Rattle.std.proofs.lemmas.List.Filters.{length-filter_both}
 use Rattle.std.proofs.lemmas.List.FromFn.{length-range_with_len}
-use Rattle.network_file.specs.Connectors.{cells_of, connector_at, touches}
-use Rattle.network_file.specs.Network.{IsNetwork, Network}
+use Rattle.network_file.specs.Connectors.{cells_of, touches}
+use Rattle.network_file.specs.Numbered.{connector_at}
+use Rattle.network_file.specs.Network.{Network}
+use Rattle.network_file.specs.Sound.{IsNetwork}
 use Rattle.network_file.specs.declared.connector.Connector.{Connector}
 use Rattle.network_file.specs.declared.connector.Connector.TheVariants.{Link, Merge, Diverge}
 use Rattle.region_cut.specs.Chart.{ChartLists, border_of, cells_in, chart_of, connectors_of, halo_at, halo_of, list_at}
 use Rattle.region_cut.specs.ConnectorCells.{three_cells}
 use Rattle.region_cut.specs.Cuttings.{region_at, region_count}
-use Rattle.region_cut.specs.Joins.{is_halo, touches_region}
+use Rattle.region_cut.specs.Neighbours.{is_halo, touches_region}
 use Rattle.region_cut.specs.declared.halo.Halo.{Halo}
 use Rattle.region_cut.proofs.Anys.{Contains-from_test, test_from_Contains}
 use Rattle.region_cut.proofs.ChartParts.{chart-border, chart-cells, chart-connectors, chart-halo}

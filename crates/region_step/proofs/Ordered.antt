@@ -6,12 +6,13 @@ use Rattle.std.proofs.lemmas.List.{ext_get_or, get_or-map, get_or_default, lengt
 use Rattle.network_file.specs.Network.{Network}
 use Rattle.flow_model.specs.Bounds.{IsRowInBounds}
 use Rattle.flow_model.specs.Rows.{empty_row, next_row}
-use Rattle.flow_model.specs.State.{row_at, rows_after}
+use Rattle.flow_model.specs.State.{row_at}
+use Rattle.flow_model.specs.Stepping.{rows_after}
 use Rattle.flow_model.specs.declared.row.Row.{Row}
 use Rattle.chain_order.specs.Order.{IsOrder, OrderLists}
 use Rattle.region_body.specs.Chains.{AreDistinct}
 use Rattle.region_body.specs.Joining.{IsKnown}
-use Rattle.region_body.specs.CellStates.{cell_state_at}
+use Rattle.cell_sweep.specs.CellStates.{cell_state_at}
 use Rattle.region_body.specs.Placed.{AreCells, ArePlaced, CanAdvance, PlacedCells}
 use Rattle.region_body.specs.Rows.{rows_of}
 use Rattle.region_body.proofs.Whole.{length-rows_after, row_at-rows_after, row_at-rows_of}
@@ -66,6 +67,7 @@ cells-placed net cells halo connectors order is has = record {
     whole = λ i k own there touched. has.around.whole i k (Contains-cells is i own) there touched;
   };
   halo_rising = has.halo_rising;
+  halo_there = has.halo_there;
   apart = λ p j within inside same. let from = from_place is p within in has.apart from.0 j from.1 inside (sym from.3 ∙ same);
   there = has.there;
   known = λ k d within. record { each = λ m few. known-placed cells halo order _ is ((has.known k d within).each m few) };

@@ -2,16 +2,18 @@
 use Rattle.std.specs.Prelude.{All, slice_index}
 use Rattle.std.proofs.Common.{◌≡◌, ℕ, ◌<◌, List, get_or, subst}
 use Rattle.std.proofs.lemmas.List.Elements.{Contains-get_or}
-use Rattle.network_file.specs.Connectors.{connector_at}
-use Rattle.network_file.specs.Network.{IsNetwork, Network}
+use Rattle.network_file.specs.Numbered.{connector_at}
+use Rattle.network_file.specs.Network.{Network}
+use Rattle.network_file.specs.Sound.{IsNetwork}
 use Rattle.flow_model.specs.Bounds.{IsRowInBounds}
 use Rattle.flow_model.specs.State.{row_at}
 use Rattle.region_body.specs.Placed.{AreCells}
 use Rattle.region_cut.specs.Chart.{ChartLists, chart_of, list_at}
 use Rattle.region_cut.specs.Cuttings.{region_count}
-use Rattle.region_cut.specs.Joins.{touches_region}
+use Rattle.region_cut.specs.Neighbours.{touches_region}
 use Rattle.region_step.specs.Opened.{halo_cells}
-use Rattle.region_step.specs.Start.{Fits, StartLists}
+use Rattle.region_step.specs.Start.{StartLists}
+use Rattle.region_step.specs.Starting.{Fits}
 use Rattle.region_step.proofs.Ground.{ground}
 use Rattle.region_step.proofs.Places.{one_place, own-not_halo}
 
@@ -29,6 +31,7 @@ are_cells net cut chart r sound is within =
         whole = λ i k own there touched. here.touched i k own touched;
       };
       halo_rising = here.apart.halo_rising;
+      halo_there = λ k d inside. (here.met (get_or (halo_cells chart r) k d) (Contains-get_or (halo_cells chart r) k d inside)).0;
       apart = λ p j own other. own-not_halo (list_at chart.cells r) (halo_cells chart r) p j here.apart own other;
       there = here.there;
       known = here.known;

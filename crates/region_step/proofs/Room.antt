@@ -5,7 +5,8 @@ use Rattle.std.proofs.Common.{◌≡◌, ℕ, zero, suc, ◌<◌, ◌≤◌, ◌
 use Rattle.std.proofs.lemmas.Bool.{cases_Bool, cases_lt, eqb-true}
 use Rattle.std.proofs.lemmas.Nat.{le-div}
 use Rattle.std.proofs.Math.Nat.{div-add-mod, div-mul-le_self, le-div_iff_mul-le, mul-le-mul_left, mul_comm}
-use Rattle.region_step.specs.Recording.{is_recorded, recorded_after}
+use Rattle.region_step.specs.Recording.{is_recorded}
+use Rattle.region_step.specs.Noting.{recorded_after}
 
 div-grows : (a every : ℕ) → 0 < every → a / every ≤ (a + 1) / every
 div-grows a every some = le-div (a / every) (a + 1) every some (omega (arith, div-mul-le_self a every))

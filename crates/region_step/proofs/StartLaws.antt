@@ -3,13 +3,15 @@ use Rattle.std.specs.Prelude.{replicate, slice_index}
 use Rattle.std.proofs.Common.{◌≡◌, ℕ, inl, inr, List, length, sym, ap, subst, arith}
 use Rattle.std.proofs.lemmas.Bool.{cases_lt}
 use Rattle.std.proofs.lemmas.List.{get_or-replicate, get_or_past, length-replicate, get_or_default}
-use Rattle.network_file.specs.Network.{IsNetwork, Network}
+use Rattle.network_file.specs.Network.{Network}
+use Rattle.network_file.specs.Sound.{IsNetwork}
 use Rattle.flow_model.specs.Bounds.{IsRowInBounds}
 use Rattle.flow_model.specs.State.{row_at, state_at}
 use Rattle.flow_model.proofs.States.{first_rows-in_bounds, length-state_at}
 use Rattle.region_cut.specs.Cuttings.{region_at, region_count}
 use Rattle.region_cut.specs.LawfulSteps.{AreLawful}
-use Rattle.region_step.specs.Start.{Fits, IsTrueStart, start_of, zero_start}
+use Rattle.region_step.specs.Start.{zero_start}
+use Rattle.region_step.specs.Starting.{Fits, IsTrueStart, start_of}
 
 pub zeros : (n i : ℕ) → slice_index (replicate n 0) i ≡ 0
 zeros n i = elim (cases_lt i n) [

@@ -3,7 +3,8 @@ use Rattle.std.specs.Prelude.{Option, Some, None, map, slice_index}
 use Rattle.std.proofs.Common.{◌≡◌, ℕ, ◌<◌, ◌≤◌, ◌+◌, List, length, sym, ap, ◌∙◌, arith}
 use Rattle.std.proofs.lemmas.List.{get_or-map}
 use Rattle.std.proofs.lemmas.List.Elements.{Contains-get_or}
-use Rattle.network_file.specs.Network.{IsNetwork, Network}
+use Rattle.network_file.specs.Network.{Network}
+use Rattle.network_file.specs.Sound.{IsNetwork}
 use Rattle.flow_model.specs.Rows.{empty_row}
 use Rattle.flow_model.specs.State.{occupancy, row_at}
 use Rattle.region_cut.specs.Chart.{ChartLists, chart_of, list_at}
@@ -12,7 +13,8 @@ use Rattle.region_step.specs.Advance.{HasHaloPut, HasRowsInBounds}
 use Rattle.region_step.specs.Grid.{grid_held, grid_row}
 use Rattle.region_step.specs.Laws.{grid_rows, grid_state, with_halo}
 use Rattle.region_step.specs.Opened.{halo_cells}
-use Rattle.region_step.specs.Start.{Fits, StartLists, start_of, zero_start}
+use Rattle.region_step.specs.Start.{StartLists, zero_start}
+use Rattle.region_step.specs.Starting.{Fits, start_of}
 use Rattle.region_step.proofs.Grids.{grid_held-started, held_in_bounds, stay_in_bounds}
 use Rattle.region_step.proofs.Ground.{ground}
 use Rattle.region_step.proofs.StartLaws.{zeros}

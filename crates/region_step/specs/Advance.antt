@@ -3,11 +3,13 @@ use Rattle.std.specs.Prelude.{◌≡◌, ℕ, ◌+◌, ◌<◌, ◌==◌, eqb, L
 use Rattle.std.specs.List.{list_any, position_or_len}
 use Rattle.network_file.specs.Network.{Network}
 use Rattle.flow_model.specs.Bounds.{IsHeldInBounds, IsRowInBounds}
-use Rattle.flow_model.specs.State.{occupancy, row_at, rows_after}
+use Rattle.flow_model.specs.State.{occupancy, row_at}
+use Rattle.flow_model.specs.Stepping.{rows_after}
 use Rattle.flow_model.specs.declared.row.Row.{Row}
 use Rattle.region_cut.specs.Chart.{ChartLists, list_at}
 use Rattle.region_step.specs.Opened.{halo_cells}
-use Rattle.region_step.specs.Recording.{is_recorded, notes_of}
+use Rattle.region_step.specs.Recording.{is_recorded}
+use Rattle.region_step.specs.Noting.{notes_of}
 use Rattle.region_step.specs.Region.{RegionState}
 
 -- what each cell that a region knows holds: its own by their rows, those of its halo by what was put there

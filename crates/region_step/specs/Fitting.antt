@@ -1,7 +1,7 @@
 -- Parts of a row's bounds.
 use Rattle.std.specs.Prelude.{◌≡◌, ℕ, ◌+◌, ◌*◌, ◌≤◌, true, false}
 use Rattle.fixed_flow.specs.Limits.{most_parts}
-use Rattle.signal_plan.specs.Total.{demand_from}
+use Rattle.step_plan.specs.Total.{demand_from}
 use Rattle.network_file.specs.Cells.{is_exit_at, is_gate_at, is_road_at}
 use Rattle.network_file.specs.Network.{Network}
 use Rattle.network_file.specs.Limits.{most_capacity}

@@ -4,7 +4,8 @@ use Rattle.network_file.specs.Network.{Network}
 use Rattle.flow_model.specs.Rows.{next_row}
 use Rattle.flow_model.specs.State.{row_at}
 use Rattle.flow_model.specs.declared.row.Row.{Row}
-use Rattle.region_step.specs.Start.{StartLists, start_of}
+use Rattle.region_step.specs.Start.{StartLists}
+use Rattle.region_step.specs.Starting.{start_of}
 
 -- what a cell holds at step t: by its row where its region has started by then, and else, one step before its start,
 -- what it held earlier

@@ -6,9 +6,11 @@ use Rattle.flow_model.specs.State.{row_at, state_at}
 use Rattle.region_cut.specs.Chart.{ChartLists, list_at}
 use Rattle.region_step.specs.Grid.{grid_before, grid_row}
 use Rattle.region_step.specs.Opened.{halo_cells}
-use Rattle.region_step.specs.Recording.{notes_of, recorded}
+use Rattle.region_step.specs.Recording.{recorded}
+use Rattle.region_step.specs.Noting.{notes_of}
 use Rattle.region_step.specs.Region.{RegionState}
-use Rattle.region_step.specs.Start.{StartLists, start_of}
+use Rattle.region_step.specs.Start.{StartLists}
+use Rattle.region_step.specs.Starting.{start_of}
 use Rattle.region_step.specs.declared.note.Note.{Note}
 use Rattle.flow_model.specs.declared.row.Row.{Row}
 

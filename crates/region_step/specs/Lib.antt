@@ -1,6 +1,8 @@
 pub mod Recording
+pub mod Noting
 pub mod Region
 pub mod Start
+pub mod Starting
 pub mod Setup
 pub mod Fitting
 pub mod Grid

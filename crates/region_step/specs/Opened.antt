@@ -5,7 +5,7 @@ use Rattle.region_cut.specs.Chart.{ChartLists, chart_of, list_at}
 use Rattle.region_cut.specs.Cuttings.{region_count}
 use Rattle.region_step.specs.Ordered.{AreOrdered, rows_in}
 use Rattle.region_step.specs.Opening.{ArePlaces}
-use Rattle.region_step.specs.Recording.{recorded_after}
+use Rattle.region_step.specs.Noting.{recorded_after}
 use Rattle.region_step.specs.Region.{RegionValue}
 
 -- the cells of a region's halo

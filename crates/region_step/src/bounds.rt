@@ -1,7 +1,7 @@
 ghost use Rattle.std.specs.Prelude.{◌≡◌, ◌+◌, ◌<◌, ◌≤◌, ◌↔◌, IsTrue, length};
 ghost use Rattle.flow_model.specs.Bounds.{IsHeldInBounds, IsRowInBounds};
 ghost use Rattle.region_step.specs.Fitting.{IsRowBalanced, IsComeInBounds};
-ghost use Rattle.region_step.specs.Start.{IsEarlierInBounds};
+ghost use Rattle.region_step.specs.Starting.{IsEarlierInBounds};
 
 use fixed_flow::MOST_PARTS;
 use flow_model::Row;

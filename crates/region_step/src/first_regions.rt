@@ -1,7 +1,7 @@
 ghost use Rattle.std.specs.Prelude.{◌≡◌, IfOk};
 ghost use Rattle.region_step.specs.Setup.{setup_of};
 ghost use Rattle.region_step.specs.Standing.{AllStand};
-ghost use Rattle.region_step.specs.Start.{Fits};
+ghost use Rattle.region_step.specs.Starting.{Fits};
 
 use crate::region::Region;
 use crate::setup::Setup;

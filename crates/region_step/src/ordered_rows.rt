@@ -1,5 +1,6 @@
 ghost use Rattle.std.specs.Prelude.{◌≡◌, ◌+◌, ◌<◌, length, map, slice_index};
-ghost use Rattle.flow_model.specs.State.{occupancy, row_at, rows_after};
+ghost use Rattle.flow_model.specs.State.{occupancy, row_at};
+ghost use Rattle.flow_model.specs.Stepping.{rows_after};
 ghost use Rattle.region_step.specs.Ordered.{AreOrdered, CanStep, before_in, rows_in};
 
 use chain_order::Order;

@@ -4,7 +4,7 @@ ghost use Rattle.region_cut.specs.Chart.{list_at};
 ghost use Rattle.region_cut.specs.Cuttings.{region_count};
 ghost use Rattle.region_step.specs.Opened.{halo_cells};
 ghost use Rattle.region_step.specs.Ordered.{AreOrdered, before_in, rows_in};
-ghost use Rattle.region_step.specs.Start.{Fits};
+ghost use Rattle.region_step.specs.Starting.{Fits};
 
 use crate::opening::halo_cells;
 use crate::ordered_rows::OrderedRows;

@@ -1,7 +1,8 @@
 ghost use Rattle.std.specs.Prelude.{◌≡◌, ◌+◌, ◌*◌, ◌<◌, ◌≤◌, ◌^◌, ◌++◌, [], IfOk, IsTrue, if◌then◌else◌, length, vec_capacity};
-ghost use Rattle.signal_plan.specs.declared.bounds.TheConstants.{MOST_STEPS};
+ghost use Rattle.step_plan.specs.declared.bounds.TheConstants.{MOST_STEPS};
 ghost use Rattle.region_step.specs.Ordered.{rows_in};
-ghost use Rattle.region_step.specs.Recording.{is_recorded, notes_of, recorded_after};
+ghost use Rattle.region_step.specs.Recording.{is_recorded};
+ghost use Rattle.region_step.specs.Noting.{notes_of, recorded_after};
 
 use crate::note::Note;
 use crate::ordered_rows::OrderedRows;

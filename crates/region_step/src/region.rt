@@ -62,7 +62,8 @@ impl Region {
     ghost use Rattle.region_step.specs.Grid.{grid_held};
     ghost use Rattle.region_step.specs.Laws.{AreTheRecurrences, StayInBounds, grid_state, with_halo};
     ghost use Rattle.region_step.specs.Opened.{IsIn, IsOf};
-    ghost use Rattle.region_step.specs.Start.{Fits, IsTrueStart, StartLists};
+    ghost use Rattle.region_step.specs.Start.{StartLists};
+    ghost use Rattle.region_step.specs.Starting.{Fits, IsTrueStart};
 
     /// Region `r` at the step at which it starts. It is recorded at each step that `every` divides and at the last one,
     /// never where `every` is 0. All memory that it will need is taken here.

@@ -1,7 +1,7 @@
 ghost use Rattle.std.specs.Prelude.{◌≡◌, IfOk, length};
 ghost use Rattle.region_cut.specs.LawfulSteps.{AreLawful};
 ghost use Rattle.region_step.specs.Setup.{setup_of, zero_setup};
-ghost use Rattle.region_step.specs.Start.{Fits, IsTrueStart};
+ghost use Rattle.region_step.specs.Starting.{Fits, IsTrueStart};
 
 use crate::start::Start;
 use no_memory::NoMemory;
@@ -21,7 +21,7 @@ pub struct Setup<'n> {
 impl<'n> Model for Setup<'n> {
     ghost use Rattle.region_cut.specs.LawfulSteps.{AreLawful};
     ghost use Rattle.region_step.specs.Setup.{SetupValue, setup_of};
-    ghost use Rattle.region_step.specs.Start.{Fits};
+    ghost use Rattle.region_step.specs.Starting.{Fits};
 
     ghost Value = { SetupValue };
 

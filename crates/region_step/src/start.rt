@@ -2,7 +2,7 @@ ghost use Rattle.std.specs.Prelude.{◌≡◌, ◌<◌, ◌≤◌, ◌↔◌, �
 ghost use Rattle.flow_model.specs.State.{state_at};
 ghost use Rattle.region_cut.specs.Cuttings.{region_at, region_count};
 ghost use Rattle.region_cut.specs.LawfulSteps.{AreLawful};
-ghost use Rattle.region_step.specs.Start.{IsCellInBounds};
+ghost use Rattle.region_step.specs.Starting.{IsCellInBounds};
 
 use crate::bounds::{is_earlier_in_bounds, is_row_in_bounds};
 use flow_model::{Row, first_rows};
@@ -32,7 +32,8 @@ impl Model for Start {
 }
 
 impl Start {
-    ghost use Rattle.region_step.specs.Start.{Fits, IsTrueStart, zero_start};
+    ghost use Rattle.region_step.specs.Start.{zero_start};
+    ghost use Rattle.region_step.specs.Starting.{Fits, IsTrueStart};
 
     /// The start at step 0: each cell holds what it holds at first.
     pub fn zero(alloc: Global, layout: &Layout) -> Result<Start, NoMemory>

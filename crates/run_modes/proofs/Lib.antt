@@ -1,1 +1,2 @@
+pub mod Daganzo
 pub mod PlainRun

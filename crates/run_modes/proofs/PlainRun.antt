@@ -10,7 +10,8 @@ use Rattle.call_beginning.specs.NetworkInput.{why_of_network}
 use Rattle.call_ending.specs.declared.status.Status.TheVariants as status
 use Rattle.call_beginning.specs.Recording.{why_unrecorded}
 use Rattle.call_beginning.specs.Task.{task_of}
-use Rattle.run_modes.specs.RunMode.{IsRunText, run_refused}
+use Rattle.run_modes.specs.RunMode.{IsReport, IsRunText, run_refused}
+use Rattle.run_modes.proofs.Daganzo.{report-by}
 
 recorded-nothing : (net : Network) → length net.cells * recorded_count net.steps 0 ≡ 0
 recorded-nothing net =
@@ -24,6 +25,6 @@ run_refused-plain run input net reads never =
 
 pub run_text-plain : (run : Request) (input : List ℕ) (net : Network) (text : List ℕ) → network_of input ≡ Ok net → run.every ≡ 0 → IsRunText (task_of run input) text ↔ (text ≡ report_of net 0)
 run_text-plain run input net text reads never = (
-  λ is. subst (λ read. IsOkAnd read (λ net. text ≡ report_of net run.every)) reads is ∙ ap (report_of net) never,
-  λ is. subst (λ read. IsOkAnd read (λ net. text ≡ report_of net run.every)) (sym reads) (is ∙ ap (report_of net) (sym never)),
+  λ is. let report : IsReport net run.every text = subst (λ read. IsOkAnd read (λ net. IsReport net run.every text)) reads is in report.extended ∙ ap (report_of net) never,
+  λ is. subst (λ read. IsOkAnd read (λ net. IsReport net run.every text)) (sym reads) (report-by net run.every text (is ∙ ap (report_of net) (sym never))),
 )

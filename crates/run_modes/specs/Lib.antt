@@ -1,4 +1,4 @@
+pub mod Daganzo
 pub mod RunMode
 pub mod WatchMode
 pub mod SampleMode
-pub mod Told

@@ -6,7 +6,7 @@ use Rattle.network_file.specs.Network.{Network}
 use Rattle.network_file.specs.Reading.{network_of}
 use Rattle.shot_lines.specs.Shots.{AreShots}
 use Rattle.delay_report.specs.Report.{report_of}
-use Rattle.call_ending.specs.Refusing.{Why}
+use Rattle.call_ending.specs.Why.{Why}
 use Rattle.call_ending.specs.declared.status.Status.TheVariants as status
 use Rattle.call_beginning.specs.NetworkInput.{why_of_network}
 use Rattle.call_beginning.specs.Recording.{why_unrecorded}

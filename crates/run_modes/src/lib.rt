@@ -1,6 +1,6 @@
 //! The modes in which workers take a network through all its steps, from step 0 on: `run`, `watch` and `sample`. Each has a
 //! file here and its definition of the same name in specs/, and answers a request and an input with the text, or says why
-//! there is none. What the observer of such a run was told is said in specs/Told.antt.
+//! there is none. What the observer was told is said in the words of `network_run`.
 #![tactic(auto)]
 
 mod run_mode;

@@ -1,12 +1,12 @@
 ghost use Rattle.std.specs.Prelude.{◌≡◌, ◌≤◌, IfErr, IfOk, IsOk, None, length, IsOkAnd};
 ghost use Rattle.command_words.specs.Words.{IsInRange};
 ghost use Rattle.network_file.specs.declared.limits.TheConstants.{MOST_BYTES};
-ghost use Rattle.delay_report.specs.Report.{report_of};
 ghost use Rattle.call_ending.specs.Refusing.{IsRefusalOf};
-ghost use Rattle.run_modes.specs.RunMode.{IsRunText, run_refused};
+ghost use Rattle.run_modes.specs.RunMode.{IsReport, IsRunText, run_refused};
 ghost use Rattle.call_beginning.specs.Task.{task_of};
 ghost use Rattle.network_file.specs.Reading.{network_of};
-ghost use Rattle.run_modes.specs.Told.{HasToldRun};
+ghost use Rattle.call_beginning.specs.UsedCutting.{IsCuttingOf};
+ghost use Rattle.network_run.specs.Telling.{HasToldIn};
 
 use call_beginning::{large_record, layout_asked, network_in, records_too_much};
 use call_ending::Refusal;
@@ -30,7 +30,7 @@ pub fn run_text<R: Threads + Sync, W: Observer>(
     requires in_range { IsInRange request }
     requires few_bytes { length input.now ≤ MOST_BYTES }
     ensures text { IfOk result (λ text. (run_refused (task_of request input.now) ≡ None) × IsRunText (task_of request input.now) text.items) }
-    ensures told { IsOk result → IsOkAnd (network_of input.now) (λ net. HasToldRun (W.told_held observer.now) (W.told_freed observer.now) net request) }
+    ensures told { IfOk result (λ text. IsOkAnd (network_of input.now) (λ net. HasToldIn (W.told_held observer.now) (W.told_freed observer.now) (IsCuttingOf net request) net request.every net.steps)) }
     ensures refusal { IfErr result (IsRefusalOf (run_refused (task_of request input.now)) ⊥) }
 {
     let net = match network_in(alloc, input) {
@@ -52,8 +52,8 @@ fn report_of_run<R: Threads + Sync, W: Observer>(
     observer: &W,
 ) -> Result<Vec<u8>, NoMemory>
     requires { IsInRange request }
-    ensures text { IfOk result (λ text. text.items ≡ report_of net.now request.every) }
-    ensures told { IsOk result → HasToldRun (W.told_held observer.now) (W.told_freed observer.now) net.now request }
+    ensures text { IfOk result (λ text. IsReport net.now request.every text.items) }
+    ensures told { IsOk result → HasToldIn (W.told_held observer.now) (W.told_freed observer.now) (IsCuttingOf net.now request) net.now request.every net.now.steps }
 {
     let _steps = net.steps;
     let every = u64::from(request.every);

@@ -2,10 +2,10 @@ ghost use Rattle.std.specs.Prelude.{◌≡◌, ◌≤◌, ◌++◌, IfErr, IfOk,
 ghost use Rattle.command_words.specs.Words.{IsInRange};
 ghost use Rattle.network_file.specs.declared.limits.TheConstants.{MOST_BYTES};
 ghost use Rattle.call_ending.specs.Refusing.{IsRefusalOf};
-ghost use Rattle.run_modes.specs.SampleMode.{IsSampleText, sample_line, sample_of, sample_refused};
+ghost use Rattle.run_modes.specs.SampleMode.{IsSampleCutting, IsSampleText, sample_line, sample_of, sample_refused};
 ghost use Rattle.call_beginning.specs.Task.{task_of};
 ghost use Rattle.network_file.specs.Reading.{network_of};
-ghost use Rattle.run_modes.specs.Told.{HasToldSample};
+ghost use Rattle.network_run.specs.Telling.{HasToldIn};
 
 use call_beginning::{network_in, regions_wanted};
 use call_ending::Refusal;
@@ -31,7 +31,7 @@ pub fn sample_text<R: Threads + Sync, W: Observer>(
     requires in_range { IsInRange request }
     requires few_bytes { length input.now ≤ MOST_BYTES }
     ensures text { IfOk result (λ text. (sample_refused (task_of request input.now) ≡ None) × IsSampleText (task_of request input.now) text.items) }
-    ensures told { IsOk result → IsOkAnd (network_of input.now) (λ net. HasToldSample (W.told_held observer.now) (W.told_freed observer.now) net request) }
+    ensures told { IfOk result (λ text. IsOkAnd (network_of input.now) (λ net. HasToldIn (W.told_held observer.now) (W.told_freed observer.now) (IsSampleCutting net request) net 0 net.steps)) }
     ensures refusal { IfErr result (IsRefusalOf (sample_refused (task_of request input.now)) ⊥) }
 {
     match network_in(alloc, input) {
@@ -51,7 +51,7 @@ fn sample_totals<R: Threads + Sync, W: Observer>(
 ) -> Result<Vec<u8>, NoMemory>
     requires { IsInRange request }
     ensures text { IfOk result (λ text. text.items ≡ sample_of request.size request.seed net.now) }
-    ensures told { IsOk result → HasToldSample (W.told_held observer.now) (W.told_freed observer.now) net.now request }
+    ensures told { IsOk result → HasToldIn (W.told_held observer.now) (W.told_freed observer.now) (IsSampleCutting net.now request) net.now 0 net.now.steps }
 {
     let _steps = net.steps;
     let layout = charted(alloc, net, regions_wanted(net, request))?;

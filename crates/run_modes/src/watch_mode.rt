@@ -1,4 +1,4 @@
-ghost use Rattle.std.specs.Prelude.{◌≡◌, ◌≤◌, ◌*◌, IfErr, IfOk, IsOk, None, Some, codes, length, nat_lt, IsOkAnd};
+ghost use Rattle.std.specs.Prelude.{◌≡◌, ◌≤◌, ◌*◌, IfErr, IfOk, None, Some, codes, length, nat_lt, IsOkAnd};
 ghost use Rattle.command_words.specs.Words.{IsInRange};
 ghost use Rattle.network_file.specs.declared.limits.TheConstants.{MOST_BYTES};
 ghost use Rattle.call_ending.specs.Refusing.{IsRefusalOf};
@@ -6,7 +6,8 @@ ghost use Rattle.call_ending.specs.declared.status.Status.TheVariants as status;
 ghost use Rattle.call_beginning.specs.Task.{task_of};
 ghost use Rattle.run_modes.specs.WatchMode.{HasShotsAndReport, IsWatchText, watch_refused};
 ghost use Rattle.network_file.specs.Reading.{network_of};
-ghost use Rattle.run_modes.specs.Told.{HasToldWatch};
+ghost use Rattle.network_run.specs.Telling.{HasTold, zero_run};
+ghost use Rattle.network_run.specs.ToldShots.{HasToldShots};
 
 use call_beginning::{large_record, layout_asked, network_in, records_too_much};
 use call_ending::{Cause, Line, Refusal};
@@ -34,7 +35,7 @@ pub fn watch_text<R: Threads + Sync, W: Observer>(
     requires in_range { IsInRange request }
     requires few_bytes { length input.now ≤ MOST_BYTES }
     ensures text { IfOk result (λ text. (watch_refused (task_of request input.now) ≡ None) × IsWatchText (task_of request input.now) text.items) }
-    ensures told { IsOk result → IsOkAnd (network_of input.now) (λ net. HasToldWatch (W.told_held observer.now) (W.told_freed observer.now) (W.told_watched observer.now) net request) }
+    ensures told { IfOk result (λ text. IsOkAnd (network_of input.now) (λ net. (shown : HasShotsAndReport net request text.items) × HasTold (W.told_held observer.now) (W.told_freed observer.now) (zero_run net shown.cut request.every) net.steps × HasToldShots (W.told_watching observer.now) (W.told_watched observer.now) (zero_run net shown.cut request.every) request.shots shown.are.steps)) }
     ensures refusal { IfErr result (IsRefusalOf (watch_refused (task_of request input.now)) ⊥) }
 {
     let net = match network_in(alloc, input) {
@@ -74,7 +75,7 @@ fn shots_and_report<R: Threads + Sync, W: Observer>(
 ) -> Result<Vec<u8>, NoMemory>
     requires { IsInRange request }
     ensures text { IfOk result (λ text. HasShotsAndReport net.now request text.items) }
-    ensures told { IsOk result → HasToldWatch (W.told_held observer.now) (W.told_freed observer.now) (W.told_watched observer.now) net.now request }
+    ensures told { IfOk result (λ text. (shown : HasShotsAndReport net.now request text.items) × HasTold (W.told_held observer.now) (W.told_freed observer.now) (zero_run net.now shown.cut request.every) net.now.steps × HasToldShots (W.told_watching observer.now) (W.told_watched observer.now) (zero_run net.now shown.cut request.every) request.shots shown.are.steps) }
 {
     let _steps = net.steps;
     let layout = layout_asked(alloc, net, request)?;

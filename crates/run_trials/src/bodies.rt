@@ -5,7 +5,7 @@ ghost use Rattle.region_cut.specs.Chart.{ChartLists, list_at};
 ghost use Rattle.region_cut.specs.Cuttings.{region_count};
 ghost use Rattle.region_step.specs.Advance.{HasHaloPut, HasRowsInBounds};
 ghost use Rattle.region_step.specs.Region.{RegionState};
-ghost use Rattle.region_step.specs.Start.{Fits};
+ghost use Rattle.region_step.specs.Starting.{Fits};
 ghost use Rattle.run_trials.specs.Rounds.{IsAt, IsShaped};
 
 use no_memory::NoMemory;

@@ -1,6 +1,6 @@
 ghost use Rattle.std.specs.Prelude.{◌≡◌, ◌<◌, ◌≤◌, ℕ, length, slice_index};
 ghost use Rattle.network_file.specs.declared.limits.TheConstants.{MOST_REGIONS};
-ghost use Rattle.region_step.specs.Start.{Fits};
+ghost use Rattle.region_step.specs.Starting.{Fits};
 
 use crate::alike::first_difference;
 use crate::compared_networks::{COMPARED, RING};

@@ -1,7 +1,6 @@
 ghost use Rattle.std.specs.Prelude.{◌≡◌, ◌≤◌, IfOk};
 
 use crate::networks::{CORRIDOR, network};
-use even_start::even_start;
 use flow_model::Row;
 use network_file::Net;
 use network_run::regions_from;
@@ -9,6 +8,7 @@ use no_memory::NoMemory;
 use region_cut::{Cut, Layout};
 use region_slots::NoObserver;
 use region_step::{Setup, Start};
+use saved_run::even_start;
 use std::alloc::Global;
 use std::test::Fail;
 use std::thread::Threads;

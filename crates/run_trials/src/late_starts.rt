@@ -1,6 +1,6 @@
 ghost use Rattle.std.specs.Prelude.{◌≡◌, length};
 ghost use Rattle.region_cut.specs.LawfulSteps.{AreLawful};
-ghost use Rattle.region_step.specs.Start.{Fits};
+ghost use Rattle.region_step.specs.Starting.{Fits};
 
 use crate::networks::{CORRIDOR, network};
 use flow_model::Row;

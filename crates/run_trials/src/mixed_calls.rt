@@ -4,7 +4,7 @@ ghost use Rattle.region_slots.specs.FieldView.{IsPassOf};
 
 use flow_ledger::Books;
 use region_cut::Layout;
-use region_slots::{Field, Moment, Observer, Pass, Shot, Sight};
+use region_slots::{Field, Freed, Observer, Pass, Shot, Taken, Watched, Watching};
 use snapshot::ShotRoom;
 use std::alloc::Global;
 use std::sync::atomic::{AtomicU64, Ordering};
@@ -70,12 +70,14 @@ impl Observer for Found {
 
     ghost told_freed = { λ observer run region step. ⊤ };
 
-    ghost told_watched = { λ observer run seen done. ⊤ };
+    ghost told_watching = { λ observer run seen. ⊤ };
 
-    fn held(&self, moment: &Moment) {}
+    ghost told_watched = { λ observer run seen shot. ⊤ };
 
-    fn freed(&self, moment: &Moment) {
-        if moment.step() == LAST / 2 {
+    fn held(&self, taken: Taken) {}
+
+    fn freed(&self, freed: Freed) {
+        if freed.step() == LAST / 2 {
             for _ in 0..1_000_000_000 {
                 if self.midway() > 0 {
                     return;
@@ -84,7 +86,9 @@ impl Observer for Found {
         }
     }
 
-    fn watched(&self, sight: &Sight) {}
+    fn watching(&self, watching: Watching) {}
+
+    fn watched(&self, watched: Watched) {}
 }
 
 // Has four passes call the field at once: two take turns, one looks, and one shoots.

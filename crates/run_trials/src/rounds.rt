@@ -1,7 +1,7 @@
 ghost use Rattle.std.specs.Prelude.{◌≡◌, ◌≢◌, ◌+◌, ◌<◌, ℕ, IfOk, OnOk, length, slice_index, slice_index_or};
 ghost use Rattle.region_cut.specs.Chart.{list_at};
 ghost use Rattle.region_cut.specs.Cuttings.{region_count};
-ghost use Rattle.region_step.specs.Start.{Fits};
+ghost use Rattle.region_step.specs.Starting.{Fits};
 ghost use Rattle.run_trials.specs.Rounds.{AllAt, AllTold, IsTold};
 
 use crate::bodies::Body;

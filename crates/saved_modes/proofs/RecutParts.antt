@@ -14,12 +14,13 @@ use Rattle.region_cut.specs.Layout.{LayoutValue}
 use Rattle.region_cut.proofs.EvenCutting.{length-even_cutting}
 use Rattle.region_step.specs.Regions.{AreAt, AreAtLast, RegionsValue}
 use Rattle.region_step.specs.Setup.{SetupValue, setup_of}
-use Rattle.region_step.specs.Start.{IsTrueStart, StartLists}
+use Rattle.region_step.specs.Start.{StartLists}
+use Rattle.region_step.specs.Starting.{IsTrueStart}
 use Rattle.snapshot.specs.Shots.{goal_of}
-use Rattle.network_run.specs.Telling.{Telling}
-use Rattle.even_start.specs.EvenStart.{IsTrueBelow}
+use Rattle.saved_run.specs.EvenStart.{IsTrueBelow}
 use Rattle.saved_modes.specs.Recutting.{IsLastPart, IsPart, part_cutting, part_cuttings, step_of}
-use Rattle.saved_modes.specs.Told.{HasToldPart}
+use Rattle.network_run.specs.Telling.{Telling}
+use Rattle.network_run.specs.ToldParts.{HasToldPart}
 
 -- regions that all start at one step start below a later one
 pub start-below : (start : StartLists) (cut : List ℕ) (from goal : ℕ) → start.steps ≡ replicate (region_count cut) from → from < goal → (r : ℕ) → r < region_count cut → slice_index start.steps r < goal

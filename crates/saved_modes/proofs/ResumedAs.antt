@@ -1,15 +1,16 @@
 -- A saved text that begins true is gone on with to the report of the plain recurrences, and to no other text.
 use Rattle.std.specs.Prelude.{IsSomeAnd}
 use Rattle.std.proofs.Common.{◌≡◌, ℕ, ◌≤◌, List, Option, Some, None, length, sym, ap, ◌∙◌, arith}
-use Rattle.network_file.specs.Network.{IsNetwork, Network}
+use Rattle.network_file.specs.Network.{Network}
+use Rattle.network_file.specs.Sound.{IsNetwork}
 use Rattle.region_cut.specs.LawfulSteps.{AreLawful}
-use Rattle.region_step.specs.Start.{IsTrueStart, StartLists}
+use Rattle.region_step.specs.Start.{StartLists}
+use Rattle.region_step.specs.Starting.{IsTrueStart}
 use Rattle.saved_run.specs.Content.{Content}
 use Rattle.saved_run.specs.Laws.{HasTrueStart}
 use Rattle.saved_run.specs.Loading.{cutting_in, start_in}
 use Rattle.saved_run.specs.Reading.{content_of}
 use Rattle.saved_run.specs.SavedLength.{most_saved}
-use Rattle.saved_run.proofs.Starting.{decide_start}
 use Rattle.delay_report.specs.FromStart.{report_from}
 use Rattle.delay_report.specs.Report.{report_of, report_with}
 use Rattle.delay_report.proofs.FromStart.{last_rows-true, report_with-none, state_note}
@@ -31,7 +32,7 @@ why-begun : (found : Option Content) (net : Network) (cut : List ℕ) → IsSome
 why-begun None net cut begins = absurd begins
 why-begun (Some content) net cut begins =
     ap (λ read. why_of_network read (λ net. why_by_cutting content net (cutting_in net content))) begins.cut_so.network ∙ ap (why_by_cutting content net) begins.cut_so.cutting ∙
-    can-start (decide_start net cut (start_in content)) begins.can_start
+    can-start net cut (start_in content) begins.can_start
 
 -- and the report answers
 report-gone_on : (found : Option Content) (net : Network) (cut text : List ℕ) → IsNetwork net → IsSomeAnd found (λ content. HasTrueStart content net cut) → text ≡ report_of net 0 → IsSomeAnd found (λ content. IsGoneOn content text)

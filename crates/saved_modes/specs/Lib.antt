@@ -3,4 +3,3 @@ pub mod Recutting
 pub mod ResumeMode
 pub mod ResumedAs
 pub mod SaveMode
-pub mod Told

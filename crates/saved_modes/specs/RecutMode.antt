@@ -2,7 +2,7 @@
 use Rattle.std.specs.Prelude.{◌≡◌, ℕ, List, Option, None, IsOkAnd}
 use Rattle.network_file.specs.Reading.{network_of}
 use Rattle.delay_report.specs.Report.{report_of}
-use Rattle.call_ending.specs.Refusing.{Why}
+use Rattle.call_ending.specs.Why.{Why}
 use Rattle.call_beginning.specs.NetworkInput.{why_of_network}
 use Rattle.call_beginning.specs.Task.{Task}
 

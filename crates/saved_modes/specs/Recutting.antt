@@ -5,7 +5,7 @@ use Rattle.network_file.specs.Limits.{most_regions}
 use Rattle.network_file.specs.Network.{Network}
 use Rattle.region_cut.specs.Cuttings.{even_cutting}
 use Rattle.region_step.specs.Regions.{AreAt, RegionsValue}
-use Rattle.even_start.specs.EvenStart.{IsTrueBelow}
+use Rattle.saved_run.specs.EvenStart.{IsTrueBelow}
 
 -- the cutting of part i of a run, from 1 on: the even one in one region more for each part, at most as many as there are
 -- cells, and 1 again behind the most that there may be

@@ -1,17 +1,17 @@
 -- A saved run that is gone on from: why it has no text, and which text it has.
-use Rattle.std.specs.Prelude.{◌≡◌, ℕ, List, IsSomeAnd, Option, Some, None, codes}
+use Rattle.std.specs.Prelude.{◌≡◌, ℕ, List, IsSomeAnd, Option, Some, None, codes, if◌then◌else◌}
 use Rattle.network_file.specs.Network.{Network}
 use Rattle.network_file.specs.Reading.{network_of}
-use Rattle.region_step.specs.Start.{IsTrueStart}
+use Rattle.region_step.specs.Starting.{IsTrueStart}
 use Rattle.saved_run.specs.Content.{Content}
 use Rattle.saved_run.specs.Loading.{IsCutSo, cutting_in, start_in}
 use Rattle.saved_run.specs.Reading.{content_of}
+use Rattle.saved_run.specs.Startable.{can_start}
 use Rattle.saved_run.specs.declared.fault.LoadFault.{LoadFault}
 use Rattle.saved_run.specs.declared.fault.LoadFault.TheVariants as fault
-use Rattle.saved_run.proofs.Starting.{decide_start}
 use Rattle.delay_report.specs.FromStart.{report_from}
 use Rattle.delay_report.specs.Report.{report_of}
-use Rattle.call_ending.specs.Refusing.{Why}
+use Rattle.call_ending.specs.Why.{Why}
 use Rattle.call_ending.specs.declared.status.Status.TheVariants as status
 use Rattle.call_beginning.specs.NetworkInput.{network_refused, why_of_network}
 use Rattle.call_beginning.specs.Task.{Task}
@@ -26,15 +26,10 @@ why_of_fault (fault.Network of_network) = network_refused of_network
 why_of_fault fault.Cutting = saved_refused (codes "ctm: saved: code 3 Cutting\n")
 why_of_fault fault.Start = saved_refused (codes "ctm: saved: code 4 Start\n")
 
--- regions that can start, or can't
-abbrev pub why_unstarted : {P : Type 0} → Dec P → Option Why
-why_unstarted (yes can) = None
-why_unstarted (no cannot) = Some (why_of_fault fault.Start)
-
 -- the first fault of a content, by the cutting of its network that its row lines give, or none
 abbrev pub why_by_cutting : Content → Network → Option (List ℕ) → Option Why
 why_by_cutting content net None = Some (why_of_fault fault.Cutting)
-why_by_cutting content net (Some cut) = why_unstarted (decide_start net cut (start_in content))
+why_by_cutting content net (Some cut) = if can_start net cut (start_in content) then None else Some (why_of_fault fault.Start)
 
 -- the first fault of a text, by the content that it has, or none
 abbrev pub why_by_content : Option Content → Option Why

@@ -14,7 +14,7 @@ use Rattle.saved_run.specs.SavedText.{saved_text}
 use Rattle.saved_run.specs.declared.row_line.RowLine.{RowLine}
 use Rattle.network_run.specs.Near.{near_end}
 use Rattle.delay_report.specs.Report.{report_of}
-use Rattle.call_ending.specs.Refusing.{Why}
+use Rattle.call_ending.specs.Why.{Why}
 use Rattle.call_beginning.specs.NetworkInput.{why_of_network}
 use Rattle.call_beginning.specs.Task.{Task}
 use Rattle.call_beginning.specs.UsedCutting.{IsCuttingOf}
@@ -24,14 +24,14 @@ abbrev pub save_refused : Task → Option Why
 save_refused task = why_of_network (network_of task.input) (λ net. None)
 
 -- what cell i held one step before a step; before step 0 there was nothing
-abbrev pub held_before : Network → (step i : ℕ) → ℕ
-held_before net zero i = 0
-held_before net (suc t) i = occupancy (state_at net t) i
+abbrev pub earlier_at : Network → (step i : ℕ) → ℕ
+earlier_at net zero i = 0
+earlier_at net (suc t) i = occupancy (state_at net t) i
 
 -- the line of cell i, whose region stands at this step: its region, its row of the plain recurrences there, and what it held
 -- one step before
 abbrev pub line_at : Network → (cut : List ℕ) → (step i : ℕ) → RowLine
-line_at net cut step i = record { region = region_at cut i; row = row_at (state_at net step) i; earlier = held_before net step i }
+line_at net cut step i = record { region = region_at cut i; row = row_at (state_at net step) i; earlier = earlier_at net step i }
 
 -- a run of this input's network whose regions stand at these steps
 abbrev pub run_at : Network → (cut steps : List ℕ) → (input : List ℕ) → Content

@@ -6,7 +6,8 @@ ghost use Rattle.delay_report.specs.Report.{report_of};
 ghost use Rattle.call_ending.specs.Refusing.{IsRefusalOf};
 ghost use Rattle.saved_modes.specs.RecutMode.{IsRecutText, recut_refused};
 ghost use Rattle.saved_modes.specs.Recutting.{part_cutting, part_cuttings};
-ghost use Rattle.saved_modes.specs.Told.{HasToldRecut};
+ghost use Rattle.network_run.specs.ToldParts.{HasToldParts};
+ghost use Rattle.call_beginning.specs.UsedRegions.{regions_wanted};
 ghost use Rattle.call_beginning.specs.Task.{task_of};
 
 use crate::recutting::recut_report;
@@ -31,7 +32,7 @@ pub fn recut_text<R: Threads + Sync, W: Observer>(
     requires in_range { IsInRange request }
     requires few_bytes { length input.now ≤ MOST_BYTES }
     ensures text { IfOk result (λ text. (recut_refused (task_of request input.now) ≡ None) × IsRecutText (task_of request input.now) text.items) }
-    ensures told { IsOk result → IsOkAnd (network_of input.now) (λ net. HasToldRecut (W.told_held observer.now) (W.told_freed observer.now) net request) }
+    ensures told { IfOk result (λ text. IsOkAnd (network_of input.now) (λ net. HasToldParts (W.told_held observer.now) (W.told_freed observer.now) net (part_cuttings (length net.cells) (regions_wanted (length net.cells) request) request.parts))) }
     ensures refusal { IfErr result (IsRefusalOf (recut_refused (task_of request input.now)) ⊥) }
 {
     let net = match network_in(alloc, input) {
@@ -51,7 +52,7 @@ fn report_in_parts<R: Threads + Sync, W: Observer>(
 ) -> Result<Vec<u8>, NoMemory>
     requires { IsInRange request }
     ensures text { IfOk result (λ text. text.items ≡ report_of net.now 0) }
-    ensures told { IsOk result → HasToldRecut (W.told_held observer.now) (W.told_freed observer.now) net.now request }
+    ensures told { IsOk result → HasToldParts (W.told_held observer.now) (W.told_freed observer.now) net.now (part_cuttings (length net.now.cells) (regions_wanted (length net.now.cells) request) request.parts) }
 {
     let _steps = net.steps;
     let regions = regions_wanted(net, request);

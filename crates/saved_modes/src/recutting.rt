@@ -1,19 +1,19 @@
 ghost use Rattle.std.specs.Prelude.{◌≡◌, ◌<◌, ◌≤◌, All, IfOk, IsOk, Some, length, replicate};
 ghost use Rattle.region_cut.specs.Cuttings.{region_count};
 ghost use Rattle.region_cut.specs.LawfulSteps.{AreLawful};
-ghost use Rattle.region_step.specs.Start.{Fits, IsTrueStart};
+ghost use Rattle.region_step.specs.Starting.{Fits, IsTrueStart};
 ghost use Rattle.delay_report.specs.Report.{report_of};
 ghost use Rattle.saved_modes.specs.Recutting.{IsLastPart, IsPart, step_of};
-ghost use Rattle.saved_modes.specs.Told.{HasToldPart, HasToldParts};
+ghost use Rattle.network_run.specs.ToldParts.{HasToldPart, HasToldParts};
 
 use delay_report::report;
-use even_start::even_start;
 use network_file::Net;
 use network_run::regions_from;
 use no_memory::NoMemory;
 use region_cut::{Cut, Layout};
 use region_slots::Observer;
 use region_step::{Regions, Setup, Start};
+use saved_run::even_start;
 use snapshot::goal_at;
 use std::alloc::Global;
 use std::thread::Threads;

@@ -1,14 +1,14 @@
 ghost use Rattle.std.specs.Prelude.{◌≡◌, ◌≤◌, IfErr, IfOk, IsOk, IsSomeAnd, None, Some};
 ghost use Rattle.command_words.specs.Words.{IsInRange};
-ghost use Rattle.region_step.specs.Start.{IsTrueStart};
-ghost use Rattle.saved_run.specs.Loading.{CanStart};
+ghost use Rattle.region_step.specs.Starting.{IsTrueStart};
+ghost use Rattle.saved_run.specs.Loading.{CanStart, IsCutSo, start_in};
 ghost use Rattle.saved_run.specs.Reading.{content_of};
 ghost use Rattle.delay_report.specs.FromStart.{report_from};
 ghost use Rattle.delay_report.specs.Report.{report_of};
 ghost use Rattle.call_ending.specs.Refusing.{IsRefusalOf};
 ghost use Rattle.saved_modes.specs.ResumeMode.{IsResumeText, resume_refused, saved_refused, why_of_fault};
 ghost use Rattle.network_run.specs.Telling.{HasTold};
-ghost use Rattle.saved_modes.specs.Told.{HasToldGoneOn};
+ghost use Rattle.network_run.specs.ToldParts.{HasToldOn};
 ghost use Rattle.call_beginning.specs.Task.{task_of};
 
 use call_beginning::refused;
@@ -34,7 +34,7 @@ pub fn resume_text<R: Threads + Sync, W: Observer>(
 ) -> Result<Vec<u8>, Refusal>
     requires in_range { IsInRange request }
     ensures text { IfOk result (λ text. (resume_refused (task_of request input.now) ≡ None) × IsResumeText (task_of request input.now) text.items) }
-    ensures told { IsOk result → IsSomeAnd (content_of input.now) (HasToldGoneOn (W.told_held observer.now) (W.told_freed observer.now)) }
+    ensures told { IfOk result (λ text. IsSomeAnd (content_of input.now) (λ content. HasToldOn (W.told_held observer.now) (W.told_freed observer.now) (IsCutSo content) (start_in content))) }
     ensures refusal { IfErr result (IsRefusalOf (resume_refused (task_of request input.now)) ⊥) }
 {
     let saved = match load(alloc, input) {

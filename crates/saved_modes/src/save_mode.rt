@@ -1,10 +1,11 @@
-ghost use Rattle.std.specs.Prelude.{◌≡◌, ◌≤◌, IfErr, IfOk, IsOk, None, Ok, length, IsOkAnd};
+ghost use Rattle.std.specs.Prelude.{◌≡◌, ◌≤◌, IfErr, IfOk, None, Ok, length, IsOkAnd};
 ghost use Rattle.command_words.specs.Words.{IsInRange};
 ghost use Rattle.network_file.specs.Reading.{network_of};
 ghost use Rattle.network_file.specs.declared.limits.TheConstants.{MOST_BYTES};
 ghost use Rattle.call_ending.specs.Refusing.{IsRefusalOf};
 ghost use Rattle.saved_modes.specs.SaveMode.{IsSaveText, IsSavedRun, save_refused};
-ghost use Rattle.saved_modes.specs.Told.{HasToldSave};
+ghost use Rattle.network_run.specs.Near.{near_end};
+ghost use Rattle.network_run.specs.Telling.{HasTold, zero_run};
 ghost use Rattle.call_beginning.specs.Task.{task_of};
 
 use call_beginning::{layout_asked, network_in};
@@ -30,7 +31,7 @@ pub fn save_text<R: Threads + Sync, W: Observer>(
     requires in_range { IsInRange request }
     requires few_bytes { length input.now ≤ MOST_BYTES }
     ensures text { IfOk result (λ text. (save_refused (task_of request input.now) ≡ None) × IsSaveText (task_of request input.now) text.items) }
-    ensures told { IsOk result → IsOkAnd (network_of input.now) (λ net. HasToldSave (W.told_held observer.now) (W.told_freed observer.now) net request) }
+    ensures told { IfOk result (λ text. IsOkAnd (network_of input.now) (λ net. (saved : IsSavedRun net request input.now text.items) × HasTold (W.told_held observer.now) (W.told_freed observer.now) (zero_run net saved.cut 0) (near_end net request.until))) }
     ensures refusal { IfErr result (IsRefusalOf (save_refused (task_of request input.now)) ⊥) }
 {
     match network_in(alloc, input) {
@@ -52,7 +53,7 @@ fn saved_near<R: Threads + Sync, W: Observer>(
     requires network { network_of input.now ≡ Ok net.now }
     requires few_bytes { length input.now ≤ MOST_BYTES }
     ensures saved { IfOk result (λ text. IsSavedRun net.now request input.now text.items) }
-    ensures told { IsOk result → HasToldSave (W.told_held observer.now) (W.told_freed observer.now) net.now request }
+    ensures told { IfOk result (λ text. (saved : IsSavedRun net.now request input.now text.items) × HasTold (W.told_held observer.now) (W.told_freed observer.now) (zero_run net.now saved.cut 0) (near_end net.now request.until)) }
 {
     let _steps = net.steps;
     let until = u64::from(request.until);

@@ -1,46 +1,40 @@
--- Claims that hold or don't, each with its reason.
-use Rattle.std.specs.Prelude.{All}
-use Rattle.std.proofs.Common.{◌≡◌, ℕ, zero, suc, ◌<◌, ◌≤◌, inl, inr, Bool, true, false, List, length, get_or, refl, sym, subst, arith}
-use Rattle.std.proofs.lemmas.Bool.{cases_eq, cases_lt, false≢true, true≢false}
-use Rattle.std.proofs.lemmas.List.{get_or_default}
+-- What tests decide that are made of others.
+use Rattle.std.specs.Prelude.{All, Decides, not, nat_le, ◌==◌, ◌||◌}
+use Rattle.std.specs.List.{list_all, range_with_len}
+use Rattle.std.proofs.Common.{◌≡◌, ℕ, ◌<◌, ◌≤◌, Bool, true, false, List, get_or, refl, sym, subst, arith}
+use Rattle.std.proofs.lemmas.Bool.{eq-eqb, eqb-true, false≢true, le-leb, leb-true, true≢false}
+use Rattle.std.proofs.lemmas.Bool.Decides.{Decides-by_and, Decides-like}
+use Rattle.std.proofs.lemmas.List.FromFn.{get_or-range_with_len, length-range_with_len}
 
--- by another claim that is the same
-pub decide_as : {P Q : Type 0} → Dec P → (P → Q) → (Q → P) → Dec Q
-decide_as (yes holds) to from = yes (to holds)
-decide_as (no fails) to from = no (λ q. fails (from q))
+pub decides_le : (a b : ℕ) → Decides (nat_le a b) (a ≤ b)
+decides_le a b = (leb-true a b, le-leb a b)
 
-pub decide_both : {P Q : Type 0} → Dec P → Dec Q → Dec (P × Q)
-decide_both (yes first) (yes second) = yes (first, second)
-decide_both (yes first) (no fails) = no (λ both. fails both.1)
-decide_both (no fails) second = no (λ both. fails both.0)
+pub decides_eq : (a b : ℕ) → Decides (a == b) (a ≡ b)
+decides_eq a b = (eqb-true a b, eq-eqb a b)
 
-pub decide_le : (a b : ℕ) → Dec (a ≤ b)
-decide_le a b = elim (cases_lt b a) [ inl less ↦ no (λ le. omega (arith, less, le)) | inr le ↦ yes le ]
+pub decides_if : {P : Type 0} (test claim : Bool) → Decides claim P → Decides (not test || claim) (test ≡ true → P)
+decides_if true claim decides = (λ is passed. decides.0 is, λ holds. decides.1 (holds refl))
+decides_if false claim decides = (λ is passed. absurd (false≢true passed), λ holds. refl)
 
-pub decide_eq : (a b : ℕ) → Dec (a ≡ b)
-decide_eq a b = elim (cases_eq a b) [ inl same ↦ yes same | inr other ↦ no other ]
+pub decides_unless : {P : Type 0} (test claim : Bool) → Decides claim P → Decides (test || claim) (test ≡ false → P)
+decides_unless true claim decides = (λ is failed. absurd (true≢false failed), λ holds. refl)
+decides_unless false claim decides = (λ is failed. decides.0 is, λ holds. decides.1 (holds refl))
 
-pub decide_if : {P : Type 0} (test : Bool) → Dec P → Dec (test ≡ true → P)
-decide_if true (yes holds) = yes (λ passed. holds)
-decide_if true (no fails) = no (λ claim. fails (claim refl))
-decide_if false decided = yes (λ passed. absurd (false≢true passed))
-
-pub decide_unless : {P : Type 0} (test : Bool) → Dec P → Dec (test ≡ false → P)
-decide_unless false (yes holds) = yes (λ failed. holds)
-decide_unless false (no fails) = no (λ claim. fails (claim refl))
-decide_unless true decided = yes (λ failed. absurd (true≢false failed))
-
-decide_last : (P : ℕ → Type 0) (n : ℕ) → Dec ((i : ℕ) → i < n → P i) → Dec (P n) → Dec ((i : ℕ) → i < suc n → P i)
-decide_last P n (yes before) (yes last) = yes (λ i within. elim (cases_eq i n) [ inl is ↦ subst P (sym is) last | inr other ↦ before i (omega (arith, within, other)) ])
-decide_last P n (yes before) (no fails) = no (λ all. fails (all n (omega arith)))
-decide_last P n (no fails) last = no (λ all. fails (λ i within. all i (omega (arith, within))))
+-- of each element of a list
+pub decides_all : {X : Type 0} (p : X → Bool) (P : X → Type 0) → ((x : X) → Decides (p x) (P x)) → (xs : List X) → Decides (list_all p xs) (All P xs)
+decides_all p P each xs = Decides-by_and p P (list_all p) each refl (λ x rest. refl) xs
 
 -- of each number below another
-pub decide_below : (P : ℕ → Type 0) → ((i : ℕ) → Dec (P i)) → (n : ℕ) → Dec ((i : ℕ) → i < n → P i)
-decide_below P each zero = yes (λ i none. absurd (omega (arith, none)))
-decide_below P each (suc n) = decide_last P n (decide_below P each n) (each n)
+pub decides_below : (p : ℕ → Bool) (P : ℕ → Type 0) → ((i : ℕ) → Decides (p i) (P i)) → (n : ℕ) → Decides (list_all p (range_with_len 0 n)) ((i : ℕ) → i < n → P i)
+decides_below p P each n = Decides-like _ to from (decides_all p P each (range_with_len 0 n))
+  where
+    to : All P (range_with_len 0 n) → (i : ℕ) → i < n → P i
+    to all i within =
+        let is : get_or (range_with_len 0 n) i 0 ≡ i = omega (arith, get_or-range_with_len 0 n i 0 within) in
+        subst P is (all i 0 (omega (arith, within, length-range_with_len 0 n)))
 
--- no number of a list is past another
-pub decide_most : (most : ℕ) (xs : List ℕ) → Dec (All (λ x. x ≤ most) xs)
-decide_most most xs = decide_as (decide_below (λ i. get_or xs i 0 ≤ most) (λ i. decide_le (get_or xs i 0) most) (length xs))
-    (λ each i d within. omega (arith, each i within, get_or_default xs i d 0 within)) (λ all i within. all i 0 within)
+    from : ((i : ℕ) → i < n → P i) → All P (range_with_len 0 n)
+    from below i d inside =
+        let within : i < n = omega (arith, inside, length-range_with_len 0 n) in
+        let is : get_or (range_with_len 0 n) i d ≡ i = omega (arith, get_or-range_with_len 0 n i d within) in
+        subst P (sym is) (below i within)

@@ -4,7 +4,8 @@ use Rattle.std.specs.List.{range_with_len}
 use Rattle.std.proofs.Common.{◌≡◌, ℕ, zero, suc, ◌<◌, ◌≤◌, List, length, refl, sym, ap, subst, ◌∙◌, arith}
 use Rattle.network_file.specs.Cells.{is_gate_at}
 use Rattle.network_file.specs.Connectors.{cells_of}
-use Rattle.network_file.specs.Network.{IsNetwork, Network}
+use Rattle.network_file.specs.Network.{Network}
+use Rattle.network_file.specs.Sound.{IsNetwork}
 use Rattle.network_file.specs.declared.connector.Connector.{Connector}
 use Rattle.network_file.specs.declared.connector.Connector.TheVariants.{Link, Merge, Diverge}
 use Rattle.flow_model.specs.Bounds.{IsHeldInBounds, IsRowInBounds}
@@ -15,10 +16,11 @@ use Rattle.flow_model.specs.State.{next_rows, occupancy, row_at, state_at}
 use Rattle.flow_model.specs.declared.row.Row.{Row}
 use Rattle.flow_model.proofs.States.{first_row, state_at-in_bounds}
 use Rattle.region_cut.specs.Cuttings.{region_at, region_count}
-use Rattle.region_cut.specs.Joins.{are_neighbours}
+use Rattle.region_cut.specs.Neighbours.{are_neighbours}
 use Rattle.region_cut.specs.CutFaults.{cut_of}
 use Rattle.region_cut.proofs.Cuttings.{at-le-greatest}
-use Rattle.region_step.specs.Start.{IsTrueStart, StartLists, start_of, zero_start}
+use Rattle.region_step.specs.Start.{StartLists, zero_start}
+use Rattle.region_step.specs.Starting.{IsTrueStart, start_of}
 use Rattle.region_step.proofs.Grids.{are_the_recurrences, grid_held-started}
 use Rattle.region_step.proofs.StartLaws.{zeros}
 use Rattle.snapshot.specs.Rooms.{RoomValue}

@@ -10,3 +10,4 @@ pub mod Starts
 pub mod Futures
 pub mod Deciding
 pub mod Starting
+pub mod EvenStarts

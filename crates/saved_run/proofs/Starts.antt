@@ -15,7 +15,8 @@ use Rattle.region_cut.specs.Cuttings.{region_at, region_count}
 use Rattle.region_cut.proofs.CutFaults.{cut_of-IsCutting}
 use Rattle.region_cut.proofs.Cuttings.{at-le-greatest}
 use Rattle.region_step.specs.Grid.{grid_before, grid_held, grid_row}
-use Rattle.region_step.specs.Start.{Fits, IsCellInBounds, IsTrueStart, StartLists, start_of}
+use Rattle.region_step.specs.Start.{StartLists}
+use Rattle.region_step.specs.Starting.{Fits, IsCellInBounds, IsTrueStart, start_of}
 use Rattle.region_step.proofs.Grids.{are_the_recurrences, grid_before-next, grid_before-start, grid_held-earlier, grid_held-started, held_in_bounds, stay_in_bounds}
 use Rattle.snapshot.specs.Rooms.{RoomValue}
 use Rattle.saved_run.specs.Laws.{HasTrueStart, IsTrueShot}

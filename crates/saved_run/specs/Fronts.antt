@@ -1,7 +1,8 @@
 -- What stands at the front of a text, and what follows it.
-use Rattle.std.specs.Prelude.{ℕ, List, bytes_eq, codes, drop, length, take, Option, Some, None, if◌then◌else◌, option_and_then}
+use Rattle.std.specs.Prelude.{ℕ, List, bytes_eq, codes, drop, length, take, Option, Some, None, if◌then◌else◌}
 use Rattle.std.specs.Char.{is_ascii_digit}
 use Rattle.std.specs.List.{prefix_len}
+use Rattle.fixed_flow.specs.Sequence.{◌>>=◌}
 use Rattle.saved_run.specs.Numbers.{number_of}
 use Rattle.saved_run.specs.declared.row_line.RowLine.{RowLine}
 
@@ -9,10 +10,6 @@ use Rattle.saved_run.specs.declared.row_line.RowLine.{RowLine}
 pub record Front (A : Type 0) : Type 0 where
   pub value : A
   pub rest : List ℕ
-
-infixl 10 ◌>>=◌
-abbrev pub ◌>>=◌ : {A B : Type 0} → Option A → (A → Option B) → Option B
-found >>= next = option_and_then next found
 
 -- what follows a word
 unfoldable pub behind : (word : List ℕ) → List ℕ → Option (List ℕ)

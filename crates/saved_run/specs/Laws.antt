@@ -1,10 +1,12 @@
 -- A run that goes on from a saved snapshot.
 use Rattle.std.specs.Prelude.{◌≡◌, ℕ, List, Ok, length}
 use Rattle.network_file.specs.Cutting.{IsCutting}
-use Rattle.network_file.specs.Network.{IsNetwork, Network}
+use Rattle.network_file.specs.Network.{Network}
+use Rattle.network_file.specs.Sound.{IsNetwork}
 use Rattle.network_file.specs.Reading.{network_of}
 use Rattle.region_cut.specs.LawfulSteps.{AreLawful}
-use Rattle.region_step.specs.Start.{Fits, IsTrueStart, StartLists}
+use Rattle.region_step.specs.Start.{StartLists}
+use Rattle.region_step.specs.Starting.{Fits, IsTrueStart}
 use Rattle.snapshot.specs.Rooms.{RoomValue}
 use Rattle.snapshot.specs.Snapshots.{IsSnapshot}
 use Rattle.saved_run.specs.Content.{Content}

@@ -9,3 +9,5 @@ pub mod Shown
 pub mod Loading
 pub mod Laws
 pub mod Futures
+pub mod EvenStart
+pub mod Startable

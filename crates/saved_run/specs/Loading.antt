@@ -1,15 +1,16 @@
 -- What a saved text is to be gone on from, or its first fault.
 use Rattle.std.specs.Prelude.{◌≡◌, ℕ, ◌==◌, List, Option, Some, None, Ok, Err, if◌then◌else◌, length, map}
 use Rattle.std.specs.Result.{result_ok}
+use Rattle.fixed_flow.specs.Sequence.{◌>>=◌}
 use Rattle.network_file.specs.Network.{Network}
 use Rattle.network_file.specs.Reading.{network_of}
 use Rattle.region_cut.specs.Chart.{ChartLists, chart_of}
 use Rattle.region_cut.specs.CutFaults.{cut_of}
 use Rattle.region_cut.specs.Cuttings.{region_count}
 use Rattle.region_cut.specs.LawfulSteps.{AreLawful}
-use Rattle.region_step.specs.Start.{Fits, StartLists}
+use Rattle.region_step.specs.Start.{StartLists}
+use Rattle.region_step.specs.Starting.{Fits}
 use Rattle.saved_run.specs.Content.{Content}
-use Rattle.saved_run.specs.Fronts.{◌>>=◌}
 use Rattle.saved_run.specs.declared.fault.LoadFault.{LoadFault}
 use Rattle.saved_run.specs.declared.fault.LoadFault.TheVariants.{Spelling, Network as OfNetwork, Cutting, Start}
 

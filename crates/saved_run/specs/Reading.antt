@@ -1,9 +1,10 @@
 -- The content of a saved text.
 use Rattle.std.specs.Prelude.{◌≡◌, ℕ, zero, suc, ◌&&◌, List, [], ◌∷◌, codes, length, nat_le, nat_lt, Option, Some, None, if◌then◌else◌, option_map}
 use Rattle.std.specs.Option.{option_or}
+use Rattle.fixed_flow.specs.Sequence.{◌>>=◌}
 use Rattle.network_file.specs.Limits.{most_bytes, most_regions}
 use Rattle.saved_run.specs.Content.{Content, IsContent}
-use Rattle.saved_run.specs.Fronts.{Front, ◌>>=◌, behind, counted_line_at, row_line_at}
+use Rattle.saved_run.specs.Fronts.{Front, behind, counted_line_at, row_line_at}
 use Rattle.saved_run.specs.SavedText.{saved_text}
 use Rattle.saved_run.specs.declared.row_line.RowLine.{RowLine}
 

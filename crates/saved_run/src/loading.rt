@@ -6,7 +6,7 @@ ghost use Rattle.network_file.specs.Reading.{network_of};
 ghost use Rattle.network_file.specs.declared.limits.TheConstants.{MOST_BYTES};
 ghost use Rattle.flow_model.specs.State.{state_at};
 ghost use Rattle.region_cut.specs.Chart.{chart_of};
-ghost use Rattle.region_step.specs.Start.{IsTrueStart};
+ghost use Rattle.region_step.specs.Starting.{IsTrueStart};
 ghost use Rattle.saved_run.specs.Content.{Content, IsContent};
 ghost use Rattle.saved_run.specs.Futures.{AgreeBelow, IsEdited, edited_content};
 ghost use Rattle.saved_run.specs.Heads.{content_in};

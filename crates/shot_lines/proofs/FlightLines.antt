@@ -4,7 +4,7 @@ use Rattle.std.specs.List.{filter, range_with_len}
 use Rattle.std.proofs.Common.{◌≡◌, ℕ, ◌+◌, Bool, true, false, List, [], ◌∷◌, ◌++◌, length, refl, ap, ◌∙◌}
 use Rattle.std.proofs.lemmas.Grind.{flat_map-append}
 use Rattle.std.proofs.lemmas.List.{append-nil}
-use Rattle.network_file.specs.Connectors.{connector_at}
+use Rattle.network_file.specs.Numbered.{connector_at}
 use Rattle.network_file.specs.Network.{Network}
 use Rattle.flow_model.specs.declared.row.Row.{Row}
 use Rattle.region_cut.proofs.Ranges.{filter_range_more}

@@ -4,10 +4,11 @@ use Rattle.network_file.specs.Cells.{name_at}
 use Rattle.network_file.specs.Network.{Network}
 use Rattle.flow_model.specs.State.{row_at}
 use Rattle.flow_model.specs.declared.row.Row.{Row}
-use Rattle.flow_ledger.specs.Books.{books_of}
+use Rattle.flow_ledger.specs.Balances.{books_of}
 use Rattle.flow_ledger.specs.Flight.{flight_of}
 use Rattle.flow_ledger.specs.declared.network_books.Books.{Books}
-use Rattle.line_fields.specs.Fields.{count_field, lines_of, row_fields, signed_field}
+use Rattle.line_fields.specs.Fields.{count_field, lines_of, row_fields}
+use Rattle.line_fields.specs.SignedFields.{signed_field}
 use Rattle.snapshot.specs.Shots.{crossing}
 
 -- `shot,number,inside,flight,initial,entered,left`

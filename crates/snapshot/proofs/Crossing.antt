@@ -8,12 +8,14 @@ use Rattle.std.proofs.lemmas.List.{append-nil, take_all, take_more}
 use Rattle.std.proofs.lemmas.List.Elements.{Contains-get_or}
 use Rattle.std.proofs.lemmas.List.Folds.{list_any_at}
 use Rattle.std.proofs.lemmas.List.Sums.{fold-append}
-use Rattle.network_file.specs.Connectors.{cells_of, connector_at}
-use Rattle.network_file.specs.Network.{IsNetwork, Network}
+use Rattle.network_file.specs.Connectors.{cells_of}
+use Rattle.network_file.specs.Numbered.{connector_at}
+use Rattle.network_file.specs.Network.{Network}
+use Rattle.network_file.specs.Sound.{IsNetwork}
 use Rattle.network_file.specs.declared.connector.Connector.{Connector}
 use Rattle.network_file.specs.declared.connector.Connector.TheVariants.{Link}
 use Rattle.flow_model.specs.declared.row.Row.{Row}
-use Rattle.flow_ledger.specs.Books.{books_of, flights_of}
+use Rattle.flow_ledger.specs.Balances.{books_of, flights_of}
 use Rattle.flow_ledger.specs.Flight.{flight_by, flight_of}
 use Rattle.flow_ledger.specs.UnevenSteps.{StandAt}
 use Rattle.flow_ledger.proofs.FlightLaws.{flight-at_one_step}

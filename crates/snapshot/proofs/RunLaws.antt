@@ -4,8 +4,10 @@ use Rattle.std.specs.List.{Contains}
 use Rattle.std.proofs.Common.{◌≡◌, ℕ, ◌<◌, ◌≤◌, ◌+◌, inl, inr, List, [], ◌∷◌, ℤ, length, get_or, refl, sym, ap, subst, ◌∙◌, arith}
 use Rattle.std.proofs.lemmas.Bool.{cases_eq, cases_lt}
 use Rattle.std.proofs.lemmas.List.Elements.{All-cons, All-nil, Contains-get_or}
-use Rattle.network_file.specs.Connectors.{cells_of, connector_at}
-use Rattle.network_file.specs.Network.{IsNetwork, Network}
+use Rattle.network_file.specs.Connectors.{cells_of}
+use Rattle.network_file.specs.Numbered.{connector_at}
+use Rattle.network_file.specs.Network.{Network}
+use Rattle.network_file.specs.Sound.{IsNetwork}
 use Rattle.network_file.specs.declared.connector.Connector.{Connector}
 use Rattle.network_file.specs.declared.connector.Connector.TheVariants.{Link}
 use Rattle.flow_model.specs.declared.row.Row.{Row}

@@ -4,7 +4,8 @@ use Rattle.std.proofs.Common.{◌≡◌, ℕ, ◌<◌, ◌≤◌, inl, inr, List
 use Rattle.std.proofs.lemmas.Bool.{cases_lt}
 use Rattle.std.proofs.lemmas.List.{ext_get_or, get_or_past}
 use Rattle.std.proofs.lemmas.List.FromFn.{get_or-map-range_with_len, length-map-range_with_len}
-use Rattle.network_file.specs.Network.{IsNetwork, Network}
+use Rattle.network_file.specs.Network.{Network}
+use Rattle.network_file.specs.Sound.{IsNetwork}
 use Rattle.flow_model.specs.Bounds.{KeepsRooms}
 use Rattle.flow_model.specs.Rows.{empty_row}
 use Rattle.flow_model.specs.State.{row_at, state_at}
@@ -17,7 +18,8 @@ use Rattle.region_cut.specs.Chart.{ChartLists}
 use Rattle.region_cut.specs.Cuttings.{region_at, region_count}
 use Rattle.region_cut.specs.LawfulSteps.{AreLawful}
 use Rattle.region_cut.proofs.Membership.{region_at-there}
-use Rattle.region_step.specs.Start.{Fits, IsTrueStart, StartLists, zero_start}
+use Rattle.region_step.specs.Start.{StartLists, zero_start}
+use Rattle.region_step.specs.Starting.{Fits, IsTrueStart}
 use Rattle.region_step.proofs.Grids.{are_the_recurrences, stay_in_bounds}
 use Rattle.region_step.proofs.StartLaws.{zero_start-lawful, zero_start-true, zeros}
 use Rattle.snapshot.specs.Rooms.{IsRoomFor, RoomValue}

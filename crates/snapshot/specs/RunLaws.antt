@@ -13,7 +13,8 @@ use Rattle.flow_ledger.specs.declared.network_books.Books.{Books}
 use Rattle.region_cut.specs.Cuttings.{region_at}
 use Rattle.region_cut.specs.LawfulSteps.{AreLawful}
 use Rattle.region_step.specs.Grid.{grid_row}
-use Rattle.region_step.specs.Start.{IsTrueStart, StartLists}
+use Rattle.region_step.specs.Start.{StartLists}
+use Rattle.region_step.specs.Starting.{IsTrueStart}
 use Rattle.snapshot.specs.Shots.{IsBalanced}
 
 -- the step of cell i is that of its region

@@ -1,12 +1,12 @@
 -- What holds of each shot of a run that is watched.
 use Rattle.std.specs.Prelude.{◌≡◌, ℕ, ◌*◌, ◌/◌, ◌<◌, ◌≤◌, false, List, ℤ, pos, ◌+ℤ◌, ◌-ℤ◌, length, map, slice_index}
 use Rattle.std.specs.List.{filter, fold, range_with_len}
-use Rattle.network_file.specs.Connectors.{connector_at}
+use Rattle.network_file.specs.Numbered.{connector_at}
 use Rattle.network_file.specs.Network.{Network}
 use Rattle.flow_model.specs.Bounds.{KeepsRooms}
 use Rattle.flow_model.specs.State.{row_at, state_at}
 use Rattle.flow_model.specs.declared.row.Row.{Row}
-use Rattle.flow_ledger.specs.Books.{books_of}
+use Rattle.flow_ledger.specs.Balances.{books_of}
 use Rattle.flow_ledger.specs.Flight.{flight_of}
 use Rattle.flow_ledger.specs.declared.network_books.Books.{Books}
 use Rattle.region_cut.specs.Cuttings.{region_at, region_count}

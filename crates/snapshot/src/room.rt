@@ -25,8 +25,8 @@ impl Model for ShotRoom {
 
 impl ShotRoom {
     ghost use Rattle.std.specs.Prelude.{◌≡◌, ◌<◌, IfOk, length};
-    ghost use Rattle.network_file.specs.Connectors.{connector_at};
-    ghost use Rattle.flow_ledger.specs.Books.{books_of};
+    ghost use Rattle.network_file.specs.Numbered.{connector_at};
+    ghost use Rattle.flow_ledger.specs.Balances.{books_of};
     ghost use Rattle.flow_ledger.specs.Flight.{flight_of};
     ghost use Rattle.region_step.specs.Opened.{IsOf};
     ghost use Rattle.snapshot.specs.Rooms.{IsRoomFor, ShowsRegion, StaysBeside, first_room};

@@ -5,7 +5,7 @@ use Rattle.std.proofs.lemmas.List.Elements.{All-contains, Contains-get_or}
 use Rattle.network_file.specs.Network.{Network}
 use Rattle.region_cut.specs.Chart.{ChartLists, chart_of, list_at, neighbours_of}
 use Rattle.region_cut.specs.Cuttings.{region_count}
-use Rattle.region_cut.specs.Joins.{are_neighbours}
+use Rattle.region_cut.specs.Neighbours.{are_neighbours}
 use Rattle.region_cut.proofs.ChartParts.{chart-neighbours}
 use Rattle.region_cut.proofs.Meetings.{neighbours-by, touches_region-cell}
 use Rattle.region_cut.proofs.Membership.{Contains-neighbours_of, neighbours_of-Contains, region_at-there}

@@ -1,4 +1,4 @@
-ghost use Rattle.std.specs.Prelude.{◌≡◌, ◌≤◌, false, true};
+ghost use Rattle.std.specs.Prelude.{◌≡◌, ◌≤◌};
 ghost use Rattle.std.specs.Thread.{IsSync};
 ghost use Rattle.region_slots.specs.FieldView.{IsPassOf};
 ghost use Rattle.snapshot.specs.Rooms.{IsRoomFor};
@@ -34,12 +34,12 @@ pub fn crew_watch<R: Threads + Sync, W: Observer>(
     ensures watched { IsWatched field.now tries watcher.old watcher.new room.old room.new result }
     ensures driven { AreDriven field.now goal sweeps members.old members.new }
     ensures told { AreMembersTold (W.told_held observer.now (cut_run field.now.terms.setup.now)) (W.told_freed observer.now (cut_run field.now.terms.setup.now)) members.old members.new }
-    ensures told_shot { W.told_watched observer.now (cut_run field.now.terms.setup.now) watcher.old.knows.seen false × W.told_watched observer.now (cut_run field.now.terms.setup.now) watcher.new.knows.seen true }
+    ensures told_shot { W.told_watching observer.now (cut_run field.now.terms.setup.now) watcher.old.knows.seen × W.told_watched observer.now (cut_run field.now.terms.setup.now) watcher.new.knows.seen result }
 {
     let mut shooting = || -> Shot
         requires { IsPassOf field.now watcher.now × IsRoomFor field.now.terms.setup.now.chart room.now × (1 ≤ tries) }
         ensures { IsWatched field.entry.now tries watcher.entry.now watcher.exit.now room.entry.now room.exit.now result
-            × W.told_watched observer.entry.now (cut_run field.entry.now.terms.setup.now) watcher.entry.now.knows.seen false × W.told_watched observer.entry.now (cut_run field.entry.now.terms.setup.now) watcher.exit.now.knows.seen true }
+            × W.told_watching observer.entry.now (cut_run field.entry.now.terms.setup.now) watcher.entry.now.knows.seen × W.told_watched observer.entry.now (cut_run field.entry.now.terms.setup.now) watcher.exit.now.knows.seen result }
     {
         let (field, tries, observer) = (field, tries, observer);
         field.watch(watcher, room, tries, observer)

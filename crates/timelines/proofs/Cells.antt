@@ -1,9 +1,9 @@
 -- The most of a cell, by what it is made of.
 use Rattle.std.specs.Prelude.{Bool, Option, Some, None, is_some, if◌then◌else◌}
 use Rattle.std.proofs.Common.{◌≡◌, ℕ, false, refl}
-use Rattle.signal_plan.specs.Capacity.{capacity_at}
-use Rattle.signal_plan.specs.Green.{is_green_by}
-use Rattle.signal_plan.specs.Records.{PlanRecords, SignalRecord}
+use Rattle.step_plan.specs.Capacity.{capacity_at}
+use Rattle.step_plan.specs.Green.{is_green_by}
+use Rattle.step_plan.specs.Records.{PlanRecords, SignalRecord}
 use Rattle.timelines.specs.Timelines.{value_at}
 use Rattle.timelines.specs.Cells.{CellValues, cell_most, green_by, most_by}
 

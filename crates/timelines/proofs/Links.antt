@@ -1,7 +1,7 @@
 -- The most that a link carries, by what it is made of.
 use Rattle.std.specs.Prelude.{true, false, min}
 use Rattle.std.proofs.Common.{◌≡◌, ℕ, refl}
-use Rattle.signal_plan.specs.Records.{PlanRecords}
+use Rattle.step_plan.specs.Records.{PlanRecords}
 use Rattle.timelines.specs.Cells.{CellValues, cell_most, most_by}
 use Rattle.timelines.specs.Links.{LinkValues, most_at, most_between}
 

@@ -2,9 +2,9 @@
 use Rattle.std.specs.Prelude.{nat_le}
 use Rattle.std.proofs.Common.{◌≡◌, ℕ, true, ◌+◌, ◌-◌, ◌<◌, ◌≤◌, List, length, get_or, ap, sym, ◌∙◌, arith}
 use Rattle.std.proofs.lemmas.Bool.Decides.{nat_tests}
-use Rattle.signal_plan.specs.Changes.{in_force}
-use Rattle.signal_plan.specs.declared.change.Change.{Change}
-use Rattle.signal_plan.proofs.Changes.{in_force-nil, in_force-take, in_force-take_more, step_le}
+use Rattle.step_plan.specs.Changes.{in_force}
+use Rattle.step_plan.specs.declared.change.Change.{Change}
+use Rattle.step_plan.proofs.Changes.{in_force-nil, in_force-take, in_force-take_more, step_le}
 use Rattle.timelines.specs.Passing.{HasCome, HasPassed}
 
 -- none has come

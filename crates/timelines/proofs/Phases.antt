@@ -2,7 +2,7 @@
 use Rattle.std.proofs.Common.{◌≡◌, ℕ, ◌+◌, ◌-◌, ◌*◌, ◌/◌, ◌%◌, ◌<◌, ◌≤◌, ap, ◌∙◌, arith}
 use Rattle.std.proofs.lemmas.Bool.Decides.{nat_tests}
 use Rattle.std.proofs.lemmas.Nat.{div-add-mod', mod-mul-add}
-use Rattle.signal_plan.specs.Records.{in_range}
+use Rattle.step_plan.specs.Records.{in_range}
 
 -- as long as the cycle doesn't end
 place_later : (a d cycle : ℕ) → a % cycle + d < cycle → (a + d) % cycle ≡ a % cycle + d

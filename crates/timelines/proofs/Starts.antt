@@ -5,8 +5,8 @@ use Rattle.std.specs.Option.{option_map_or}
 use Rattle.std.proofs.Common.{◌≡◌, ℕ, false, List, [], ◌∷◌, refl, inl, inr, arith}
 use Rattle.std.proofs.lemmas.Bool.{cases_Bool}
 use Rattle.std.proofs.lemmas.Bool.Decides.{nat_tests}
-use Rattle.signal_plan.specs.Changes.{in_force}
-use Rattle.signal_plan.specs.declared.change.Change.{Change}
+use Rattle.step_plan.specs.Changes.{in_force}
+use Rattle.step_plan.specs.declared.change.Change.{Change}
 
 abbrev found_at : (t : ℕ) → List (Change ℕ) → Option (Change ℕ)
 found_at t changes = find (λ change. nat_le change.step t) changes

@@ -1,8 +1,8 @@
 -- The most that a cell sends or receives from step to step.
 use Rattle.std.specs.Prelude.{ℕ, Bool, true, Option, if◌then◌else◌}
-use Rattle.signal_plan.specs.Capacity.{capacity_at}
-use Rattle.signal_plan.specs.Green.{green_at, is_green_by}
-use Rattle.signal_plan.specs.Records.{PlanRecords, SignalRecord}
+use Rattle.step_plan.specs.Capacity.{capacity_at}
+use Rattle.step_plan.specs.Green.{green_at, is_green_by}
+use Rattle.step_plan.specs.Records.{PlanRecords, SignalRecord}
 use Rattle.timelines.specs.Timelines.{TimelineValue, value_at}
 
 -- what it depends on; a cell that receives has no signal

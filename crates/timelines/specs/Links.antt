@@ -1,6 +1,6 @@
 -- The most that a link carries from step to step, whatever its cells hold.
 use Rattle.std.specs.Prelude.{ℕ, true, false, min}
-use Rattle.signal_plan.specs.Records.{PlanRecords}
+use Rattle.step_plan.specs.Records.{PlanRecords}
 use Rattle.timelines.specs.Cells.{CellValues, cell_most, most_by}
 
 -- its cells, and the step to which they were followed

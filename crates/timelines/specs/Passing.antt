@@ -1,7 +1,7 @@
 -- How many changes of a value have come by a step.
 use Rattle.std.specs.Prelude.{◌≡◌, ℕ, ◌+◌, ◌<◌, ◌≤◌, ◌^◌, List, length, slice_index_or, take}
-use Rattle.signal_plan.specs.Changes.{IsRising, in_force}
-use Rattle.signal_plan.specs.declared.change.Change.{Change}
+use Rattle.step_plan.specs.Changes.{IsRising, in_force}
+use Rattle.step_plan.specs.declared.change.Change.{Change}
 
 -- by so many changes this is in force, at step t and as long as no other comes
 pub record HasPassed {X : Type 0} (start : X) (changes : List (Change X)) (come : ℕ) (value : X) (t : ℕ) : Type 0 where

@@ -1,7 +1,7 @@
 -- The timeline of a value over the steps.
 use Rattle.std.specs.Prelude.{◌≡◌, ℕ, ◌<◌, ◌≤◌, List}
-use Rattle.signal_plan.specs.Changes.{in_force}
-use Rattle.signal_plan.specs.declared.change.Change.{Change}
+use Rattle.step_plan.specs.Changes.{in_force}
+use Rattle.step_plan.specs.declared.change.Change.{Change}
 
 -- a value by its changes, and the step to which it was followed
 pub record TimelineValue (X : Type 0) : Type 0 where

@@ -1,5 +1,5 @@
 ghost use Rattle.std.specs.Prelude.{◌≡◌, ◌≤◌, ◌<◌, ℕ, IfOk, IsTrue, length, if◌then◌else◌};
-ghost use Rattle.signal_plan.specs.Green.{is_green_by};
+ghost use Rattle.step_plan.specs.Green.{is_green_by};
 ghost use Rattle.timelines.specs.Cells.{green_by};
 ghost use Rattle.timelines.specs.Timelines.{IsSteady};
 
@@ -7,9 +7,9 @@ use crate::now::Now;
 use crate::phase::light;
 use crate::timeline::Timeline;
 use no_memory::NoMemory;
-use signal_plan::{MOST_STEPS, Plan, Signal};
 use std::alloc::Global;
 use std::marker::Model;
+use step_plan::{MOST_STEPS, Plan, Signal};
 
 /// The most that a cell sends or receives in a step, whatever it holds, followed forward from step 0.
 #[derive(Debug, Drop)]

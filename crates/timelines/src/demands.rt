@@ -1,11 +1,11 @@
 ghost use Rattle.std.specs.Prelude.{◌≡◌, ◌<◌, ℕ, IfOk, length};
-ghost use Rattle.signal_plan.specs.Demand.{demand_at};
+ghost use Rattle.step_plan.specs.Demand.{demand_at};
 ghost use Rattle.timelines.specs.Timelines.{value_at};
 
 use crate::timeline::Timeline;
 use no_memory::NoMemory;
-use signal_plan::Plan;
 use std::alloc::Global;
+use step_plan::Plan;
 
 /// What a gate demands in a step, in parts, at step 0.
 pub fn demand_of(alloc: Global, plan: &Plan, cell: u32) -> Result<Timeline<u64>, NoMemory>

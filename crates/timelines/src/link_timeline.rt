@@ -4,9 +4,9 @@ ghost use Rattle.timelines.specs.Timelines.{IsSteady};
 use crate::cell_timeline::CellTimeline;
 use crate::now::Now;
 use no_memory::NoMemory;
-use signal_plan::{MOST_STEPS, Plan};
 use std::alloc::Global;
 use std::marker::Model;
+use step_plan::{MOST_STEPS, Plan};
 
 /// The most that a link carries in a step, whatever its cells hold, followed forward from step 0.
 #[derive(Debug, Drop)]

@@ -1,9 +1,9 @@
 ghost use Rattle.std.specs.Prelude.{◌≡◌, ◌≤◌, ◌<◌, ◌+◌, ◌-◌, ◌%◌, ℕ, Some};
-ghost use Rattle.signal_plan.specs.Green.{is_green_by};
+ghost use Rattle.step_plan.specs.Green.{is_green_by};
 ghost use Rattle.timelines.specs.Timelines.{IsSteady};
 
 use crate::now::Now;
-use signal_plan::{MOST_STEPS, Signal};
+use step_plan::{MOST_STEPS, Signal};
 
 /// Whether a cell with this signal, or with none, may send in step `t`.
 pub(crate) fn light(signal: Option<Signal>, t: u64) -> Now<bool>

@@ -1,11 +1,11 @@
 ghost use Rattle.std.specs.Prelude.{◌≡◌, ◌<◌, ℕ, IfOk, length};
-ghost use Rattle.signal_plan.specs.Turning.{shares_at};
+ghost use Rattle.step_plan.specs.Turning.{shares_at};
 ghost use Rattle.timelines.specs.Timelines.{value_at};
 
 use crate::timeline::Timeline;
 use no_memory::NoMemory;
-use signal_plan::Plan;
 use std::alloc::Global;
+use step_plan::Plan;
 
 /// The turning shares of the diverge out of a cell, at step 0; `own` where no turn record speaks.
 pub fn shares_of(

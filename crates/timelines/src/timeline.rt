@@ -1,11 +1,11 @@
 ghost use Rattle.std.specs.Prelude.{◌≡◌, ◌+◌, ◌<◌, ◌≤◌, ◌^◌, ℕ, length, slice_index_or};
-ghost use Rattle.signal_plan.specs.declared.change.Change.{Change};
+ghost use Rattle.step_plan.specs.declared.change.Change.{Change};
 ghost use Rattle.timelines.specs.Passing.{HasPassed};
 
 use crate::now::Now;
-use signal_plan::Change;
 use std::alloc::Global;
 use std::marker::Model;
+use step_plan::Change;
 
 /// A value that changes at some steps, followed forward from step 0.
 #[derive(Debug, Drop)]
@@ -32,7 +32,7 @@ impl<V> Model for Timeline<V> {
 
 impl<V: Copy> Timeline<V> {
     ghost use Rattle.std.specs.Prelude.{IsTrue};
-    ghost use Rattle.signal_plan.specs.Changes.{IsRising};
+    ghost use Rattle.step_plan.specs.Changes.{IsRising};
     ghost use Rattle.timelines.specs.Timelines.{IsSteady, value_at};
 
     /// The timeline of a value with these changes, at step 0.

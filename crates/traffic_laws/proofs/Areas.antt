@@ -5,9 +5,10 @@ use Rattle.std.proofs.Common.{◌≡◌, inl, inr, ℕ, zero, suc, add-one, fals
 use Rattle.std.proofs.lemmas.Bool.{cases_Bool}
 use Rattle.std.proofs.lemmas.Int.{ints}
 use Rattle.std.proofs.lemmas.List.Sums.{sum_by-cons}
-use Rattle.signal_plan.proofs.Sums.{sum_by-same, sum_by-zero, sum_by_places, sum_by_range_split, sum_by_splits}
+use Rattle.step_plan.proofs.Sums.{sum_by-same, sum_by-zero, sum_by_places, sum_by_range_split, sum_by_splits}
 use Rattle.network_file.specs.Cells.{is_exit_at}
-use Rattle.network_file.specs.Network.{IsNetwork, Network}
+use Rattle.network_file.specs.Network.{Network}
+use Rattle.network_file.specs.Sound.{IsNetwork}
 use Rattle.flow_model.specs.Rows.{empty_row}
 use Rattle.flow_model.specs.State.{delay_of, occupancy, row_at, state_at}
 use Rattle.flow_model.specs.declared.row.Row.{Row}

@@ -4,13 +4,15 @@ use Rattle.std.specs.List.{range_with_len}
 use Rattle.std.proofs.Common.{◌≡◌, inl, inr, ℕ, Bool, zero, suc, add-one, false, true, ◌+◌, ◌-◌, ◌*◌, ◌<◌, ◌≤◌, [], length, arith, refl, ap, subst, ◌∙◌}
 use Rattle.std.proofs.lemmas.Bool.{cases_Bool, eq-eqb}
 use Rattle.std.proofs.lemmas.List.Sums.{sum_by-cons}
-use Rattle.signal_plan.specs.Capacity.{capacity_at}
-use Rattle.signal_plan.specs.Green.{green_at}
-use Rattle.signal_plan.specs.Speeds.{arriving, speed_at}
-use Rattle.signal_plan.specs.Records.{PlanRecords}
-use Rattle.signal_plan.proofs.Sums.{sum_by_range_split}
-use Rattle.network_file.specs.Connectors.{connector_at, leads_out_of}
-use Rattle.network_file.specs.Network.{IsNetwork, Network}
+use Rattle.step_plan.specs.Capacity.{capacity_at}
+use Rattle.step_plan.specs.Green.{green_at}
+use Rattle.step_plan.specs.Speeds.{arriving, speed_at}
+use Rattle.step_plan.specs.Records.{PlanRecords}
+use Rattle.step_plan.proofs.Sums.{sum_by_range_split}
+use Rattle.network_file.specs.Connectors.{leads_out_of}
+use Rattle.network_file.specs.Numbered.{connector_at}
+use Rattle.network_file.specs.Network.{Network}
+use Rattle.network_file.specs.Sound.{IsNetwork}
 use Rattle.network_file.specs.declared.connector.Connector.{Connector}
 use Rattle.network_file.specs.declared.connector.Connector.TheVariants.{Link}
 use Rattle.flow_model.specs.Flows.{flow_of, leaving, outflow}

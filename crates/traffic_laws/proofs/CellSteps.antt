@@ -1,7 +1,8 @@
 -- What a step does to the row of a cell.
 use Rattle.std.proofs.Common.{◌≡◌, ℕ, false, true, ◌+◌, ◌-◌, ◌<◌, ◌≤◌, length, arith, ap}
 use Rattle.network_file.specs.Cells.{is_exit_at}
-use Rattle.network_file.specs.Network.{IsNetwork, Network}
+use Rattle.network_file.specs.Network.{Network}
+use Rattle.network_file.specs.Sound.{IsNetwork}
 use Rattle.flow_model.specs.Rows.{next_row}
 use Rattle.flow_model.specs.State.{occupancy, row_at, state_at}
 use Rattle.flow_model.specs.declared.row.Row.{Row}

@@ -5,7 +5,7 @@ use Rattle.std.proofs.Common.{◌≡◌, inl, inr, ℕ, Bool, zero, suc, add-one
 use Rattle.std.proofs.lemmas.Bool.{cases_Bool, cases_lt, ltb-false, ltb-true}
 use Rattle.std.proofs.lemmas.Int.{ints}
 use Rattle.std.proofs.lemmas.List.Sums.{fails_before_first, passes_at_first}
-use Rattle.signal_plan.proofs.Sums.{sum_by-zero, sum_by_splits}
+use Rattle.step_plan.proofs.Sums.{sum_by-zero, sum_by_splits}
 use Rattle.network_file.specs.Network.{Network}
 use Rattle.flow_ledger.proofs.StateRows.{come-next, gone-next}
 use Rattle.traffic_laws.specs.Area.{area_between, area_under}

@@ -1,11 +1,11 @@
 -- What a cell can pass in a range of steps, and when it passes as much.
 use Rattle.std.specs.Prelude.{◌≡◌, ℕ, ◌+◌, ◌-◌, ◌*◌, ◌<◌, ◌≤◌, count_by, length, sum_by, true, if◌then◌else◌}
 use Rattle.std.specs.List.{range_with_len}
-use Rattle.signal_plan.specs.Capacity.{capacity_at}
-use Rattle.signal_plan.specs.Green.{green_at}
-use Rattle.signal_plan.specs.Speeds.{arriving, speed_at}
-use Rattle.signal_plan.specs.Records.{PlanRecords}
-use Rattle.network_file.specs.Connectors.{connector_at}
+use Rattle.step_plan.specs.Capacity.{capacity_at}
+use Rattle.step_plan.specs.Green.{green_at}
+use Rattle.step_plan.specs.Speeds.{arriving, speed_at}
+use Rattle.step_plan.specs.Records.{PlanRecords}
+use Rattle.network_file.specs.Numbered.{connector_at}
 use Rattle.network_file.specs.Network.{Network}
 use Rattle.network_file.specs.declared.connector.Connector.TheVariants.{Link}
 use Rattle.flow_model.specs.Limits.{receiving_at}

@@ -1,10 +1,12 @@
 -- The curves of a cell: by each step, what has arrived in it and what has departed from it.
 use Rattle.std.specs.Prelude.{◌≡◌, ℕ, ◌+◌, ◌<◌, ◌≤◌, List, false, length, slice_index}
 use Rattle.network_file.specs.Cells.{is_exit_at}
-use Rattle.network_file.specs.Network.{IsNetwork, Network}
+use Rattle.network_file.specs.Network.{Network}
+use Rattle.network_file.specs.Sound.{IsNetwork}
 use Rattle.flow_model.specs.Bounds.{first_at}
 use Rattle.flow_model.specs.State.{state_at}
-use Rattle.flow_ledger.specs.Flight.{come_of, gone_of}
+use Rattle.flow_ledger.specs.Flight.{gone_of}
+use Rattle.flow_ledger.specs.Books.{come_of}
 
 -- what has arrived in cell i by step s, with what it held at first
 abbrev pub arrived : Network → (i s : ℕ) → ℕ

@@ -1,5 +1,5 @@
 ghost use Rattle.std.specs.Prelude.{◌≡◌, ◌+◌, ◌≤◌, length};
-ghost use Rattle.signal_plan.specs.Limits.{most_steps};
+ghost use Rattle.step_plan.specs.Limits.{most_steps};
 ghost use Rattle.traffic_laws.specs.Area.{IsWaitOfCell, NeverCross, area_between};
 ghost use Rattle.traffic_laws.specs.Waits.{IsWaitOfParts};
 

@@ -1,5 +1,5 @@
 ghost use Rattle.std.specs.Prelude.{◌≡◌, ◌<◌, ◌≤◌, length};
-ghost use Rattle.signal_plan.specs.Limits.{most_steps};
+ghost use Rattle.step_plan.specs.Limits.{most_steps};
 ghost use Rattle.traffic_laws.specs.Bottleneck.{
   IsRateTimesGreenSteps,
   IsRateTimesSteps,
@@ -10,7 +10,7 @@ ghost use Rattle.traffic_laws.specs.Bottleneck.{
 };
 
 use network_file::Net;
-use signal_plan::Plan;
+use step_plan::Plan;
 
 /// The most that a cell passes from step `from` up to step `to`, in parts: its capacities at the green ones of these
 /// steps, added up. A cell without a signal is always green.

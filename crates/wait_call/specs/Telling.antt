@@ -1,9 +1,10 @@
 -- What the observer of a call was told.
-use Rattle.std.specs.Prelude.{◌≡◌, ◌≢◌, ℕ, List, Ok, Err, length, min}
+use Rattle.std.specs.Prelude.{◌≡◌, ◌≢◌, ℕ, List, Result, Ok, Err, length, min}
 use Rattle.network_file.specs.Network.{Network}
 use Rattle.region_cut.specs.Cuttings.{even_cutting}
 use Rattle.network_run.specs.Telling.{HasTold, Telling, zero_run}
-use Rattle.wait_call.specs.Answer.{Answer, IsTextOf}
+use Rattle.call_ending.specs.Why.{Why}
+use Rattle.wait_call.specs.Answer.{IsTextOf}
 
 -- in how many regions a network is cut whose file gives none, where it has as many cells
 abbrev pub even_regions : ℕ
@@ -17,6 +18,6 @@ pub record HasToldRun (held freed : Telling) (net : Network) : Type 0 where
   pub told : HasTold held freed (zero_run net cut 0) net.steps
 
 -- a network that was answered by this text, and what the observer was told of its run
-abbrev pub IsAnswered : (held freed : Telling) → Answer → List ℕ → Type 0
-IsAnswered held freed (Ok net) text = IsTextOf (Ok net) text × HasToldRun held freed net
-IsAnswered held freed (Err why) text = ⊥
+abbrev pub IsReported : (held freed : Telling) → Result Network Why → List ℕ → Type 0
+IsReported held freed (Ok net) text = IsTextOf (Ok net) text × HasToldRun held freed net
+IsReported held freed (Err why) text = ⊥

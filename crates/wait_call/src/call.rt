@@ -1,11 +1,9 @@
-ghost use Rattle.std.specs.Prelude.{◌≡◌, ◌≢◌, ℕ, List, None, IfSome};
-ghost use Rattle.std.specs.Io.KnownBytes.{IsAtEnd};
-ghost use Rattle.ctm_ports.specs.Count.{Rose};
+ghost use Rattle.std.specs.Prelude.{◌≡◌, None};
 ghost use Rattle.ctm_ports.specs.ReadEnd.{LosesAtMost};
-ghost use Rattle.call_ending.specs.Ending.{HasEnded, sink_use};
+ghost use Rattle.call_ending.specs.Calls.{call_of, sink_use, source_use};
 ghost use Rattle.call_ending.specs.declared.status.Status.TheVariants as status;
-ghost use Rattle.wait_call.specs.Answer.{answer_of, most_read, why_in};
-ghost use Rattle.wait_call.specs.Telling.{IsAnswered};
+ghost use Rattle.wait_call.specs.Answer.{most_bytes_read};
+ghost use Rattle.wait_call.specs.Ended.{HasReported};
 ghost use Rattle.wait_call.specs.Words.{workers_asked};
 
 use crate::answer::answer;
@@ -33,13 +31,9 @@ pub fn ctm_wait<R: Threads + Wait + Sync, S: Source, O: Sink, E: Sink, W: Observ
     // the call ended in one of five ways: it is done, the answer is a refusal, a read of the source failed where the words
     // ask for a run, a write of the report failed, or memory was refused. Where there is a report the observer was told of each
     // step of the network, in the file's cutting or in the even one into 64 regions or as many as there are cells.
-    ensures ended { (input : List ℕ) × IfSome (S.left source.old) (λ bytes. input ≡ bytes)
-        × HasEnded (IsAnswered (W.told_held observer.now) (W.told_freed observer.now) (answer_of words.now input)) (why_in (answer_of words.now input))
-        (IsAtEnd (S.left source.new))
-        ((workers_asked words.now ≢ None) × Rose (S.faults source.old) (S.faults source.new))
-        result
-        (sink_use (O.taken out.old) (O.taken out.new) (out.new ≡ out.old) (Rose (O.faults out.old) (O.faults out.new)) (Rose (O.wants out.old) (O.wants out.new)))
-        (sink_use (E.taken err.old) (E.taken err.new) (err.new ≡ err.old) (Rose (E.faults err.old) (E.faults err.new)) (Rose (E.wants err.old) (E.wants err.new))) }
+    ensures ended { HasReported (W.told_held observer.now) (W.told_freed observer.now)
+        (call_of words.now (source_use S.left S.faults source.old source.new) (sink_use O.taken O.faults O.wants out.old out.new) (sink_use E.taken E.faults E.wants err.old err.new))
+        result }
 
     // Status Words tells of words that are refused, and where they are there is no other.
     ensures words { result ≡ status.Words → workers_asked words.now ≡ None }
@@ -47,7 +41,7 @@ pub fn ctm_wait<R: Threads + Wait + Sync, S: Source, O: Sink, E: Sink, W: Observ
 
     // Where the words are refused the source is as it was, and else it is read one byte past the longest input at most.
     ensures unread { workers_asked words.now ≡ None → source.new ≡ source.old }
-    ensures bounded { LosesAtMost (S.left source.old) (S.left source.new) (most_read (workers_asked words.now)) }
+    ensures bounded { LosesAtMost (S.left source.old) (S.left source.new) (most_bytes_read (workers_asked words.now)) }
 {
     let answer = answer(rt, alloc, words, source, observer);
     end(answer, out, err)

@@ -1,8 +1,9 @@
 ghost use Rattle.std.specs.Prelude.{◌≡◌, ◌≤◌, IfErr, IfOk, IsOk, length};
 ghost use Rattle.delay_report.specs.Report.{report_of};
 ghost use Rattle.call_ending.specs.Refusing.{IsRefusalOf};
-ghost use Rattle.wait_call.specs.Answer.{answer_to, most_input, why_in};
-ghost use Rattle.wait_call.specs.Telling.{HasToldRun, IsAnswered};
+ghost use Rattle.network_file.specs.Limits.{most_bytes};
+ghost use Rattle.wait_call.specs.Answer.{answer_to, why_in};
+ghost use Rattle.wait_call.specs.Telling.{HasToldRun, IsReported};
 
 use crate::waiting_run::last_regions;
 use call_beginning::network_in;
@@ -27,9 +28,9 @@ pub(crate) fn report_in<R: Threads + Wait + Sync, W: Observer>(
     workers: u32,
     observer: &W,
 ) -> Result<Vec<u8>, Refusal>
-    requires few_bytes { length input.now ≤ most_input }
+    requires few_bytes { length input.now ≤ most_bytes }
     requires workers { (1 ≤ workers) × (workers ≤ 16) }
-    ensures text { IfOk result (λ text. IsAnswered (W.told_held observer.now) (W.told_freed observer.now) (answer_to input.now) text.items) }
+    ensures text { IfOk result (λ text. IsReported (W.told_held observer.now) (W.told_freed observer.now) (answer_to input.now) text.items) }
     ensures refusal { IfErr result (IsRefusalOf (why_in (answer_to input.now)) ⊥) }
 {
     let net = match network_in(alloc, input) {

@@ -8,7 +8,7 @@ ghost use Rattle.parked_crew.specs.Telling.{ArePassesTold};
 ghost use Rattle.wait_call.specs.Seats.{HasCome, IsSeat};
 ghost use Rattle.region_step.specs.Regions.{AreAtLast};
 ghost use Rattle.region_step.specs.Setup.{zero_setup};
-ghost use Rattle.region_step.specs.Start.{IsTrueStart};
+ghost use Rattle.region_step.specs.Starting.{IsTrueStart};
 
 use crate::seats::{share_off, unite_all};
 use no_memory::NoMemory;

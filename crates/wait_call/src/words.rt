@@ -5,7 +5,7 @@ ghost use Rattle.call_beginning.specs.Words.{words_refused};
 ghost use Rattle.wait_call.specs.Words.{workers_asked};
 
 use call_ending::{Cause, Line, Refusal};
-use command_words::Values;
+use command_words::number_within;
 
 /// The most workers that a run may have.
 const MOST_WORKERS: u32 = 16;
@@ -28,7 +28,7 @@ fn workers_in(words: &[String]) -> Option<u32>
     ensures in_range { IfSome result (λ workers. (1 ≤ workers) × (workers ≤ 16)) }
 {
     match words {
-        [word] => Values::Numbers(1, MOST_WORKERS).value(word),
+        [word] => number_within(word, 1, MOST_WORKERS),
         _ => None,
     }
 }

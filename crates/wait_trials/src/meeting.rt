@@ -1,4 +1,4 @@
-use region_slots::{Moment, Observer, Sight};
+use region_slots::{Freed, Observer, Taken, Watched, Watching};
 use std::sync::atomic::{AtomicU64, Ordering};
 
 // An observer at which the worker that holds region 0 at step 0 and the one that holds region 2 at step 1 wait for each other for
@@ -41,7 +41,7 @@ impl Meeting {
 }
 
 // Whether the flag is set within a while.
-fn is_set_in_time(flag: &AtomicU64) -> bool {
+pub(crate) fn is_set_in_time(flag: &AtomicU64) -> bool {
     for _ in 0..1_000_000_000 {
         if flag.load(Ordering::SeqCst) != 0 {
             return true;
@@ -65,10 +65,12 @@ impl Observer for Meeting {
 
     ghost told_freed = { λ observer run region step. ⊤ };
 
-    ghost told_watched = { λ observer run seen done. ⊤ };
+    ghost told_watching = { λ observer run seen. ⊤ };
 
-    fn held(&self, moment: &Moment) {
-        let (region, step) = (moment.region(), moment.step());
+    ghost told_watched = { λ observer run seen shot. ⊤ };
+
+    fn held(&self, taken: Taken) {
+        let (region, step) = (taken.region(), taken.step());
         if region < 4 && step < 64 {
             let noted = &self.noted[region as usize];
             noted.store(noted.load(Ordering::SeqCst) | 1 << step, Ordering::SeqCst);
@@ -80,7 +82,9 @@ impl Observer for Meeting {
         }
     }
 
-    fn freed(&self, moment: &Moment) {}
+    fn freed(&self, freed: Freed) {}
 
-    fn watched(&self, sight: &Sight) {}
+    fn watching(&self, watching: Watching) {}
+
+    fn watched(&self, watched: Watched) {}
 }

@@ -1,4 +1,4 @@
-use region_slots::{Moment, Observer, Sight};
+use region_slots::{Freed, Observer, Taken, Watched, Watching};
 use std::sync::atomic::{AtomicU64, Ordering};
 
 // An observer that notes which of 64 regions were held, and whether another one was.
@@ -35,10 +35,12 @@ impl Observer for Regions {
 
     ghost told_freed = { λ observer run region step. ⊤ };
 
-    ghost told_watched = { λ observer run seen done. ⊤ };
+    ghost told_watching = { λ observer run seen. ⊤ };
 
-    fn held(&self, moment: &Moment) {
-        let region = moment.region();
+    ghost told_watched = { λ observer run seen shot. ⊤ };
+
+    fn held(&self, taken: Taken) {
+        let region = taken.region();
         if region < 64 {
             self.noted.fetch_or(1 << region, Ordering::SeqCst);
         } else {
@@ -46,7 +48,9 @@ impl Observer for Regions {
         }
     }
 
-    fn freed(&self, moment: &Moment) {}
+    fn freed(&self, freed: Freed) {}
 
-    fn watched(&self, sight: &Sight) {}
+    fn watching(&self, watching: Watching) {}
+
+    fn watched(&self, watched: Watched) {}
 }

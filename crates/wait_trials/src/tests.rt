@@ -1,7 +1,9 @@
 use crate::calling::call_past;
 use crate::crew::two_members;
+use crate::last_moves::LastMoves;
 use crate::meeting::Meeting;
 use crate::regions::Regions;
+use crate::woken::three_members;
 use call_ending::Status;
 use region_slots::NoObserver;
 use std::alloc::{AllocError, Global};
@@ -96,5 +98,43 @@ fn a_run_is_in_the_regions_of_its_file(rt: HostRuntime) -> Result<(), Fail> {
 fn a_run_of_more_cells_than_64_is_in_64_regions(rt: HostRuntime) -> Result<(), Fail> {
     let input = exits(rt.alloc(), 65)?;
     check_regions(&rt, rt.alloc(), &input, u64::MAX)?;
+    Ok(())
+}
+
+// Three exits, a fourth, a gate, the exit that it leads to, and so many exits more, to be taken to step 2.
+fn last_ones(alloc: Global, more: u32) -> Result<Vec<u8>, AllocError> {
+    let mut text =
+        b"ctm,1\nsteps,2\nexit,a,1\nexit,b,1\nexit,c,1\nexit,d,1\ngate,g,1,1\nexit,x,1\nlink,g,x\n".to_vec(
+            alloc,
+        )?;
+    for number in 0..more {
+        let line = format!(in alloc; "exit,e{number},1\n")?;
+        text.extend_from_slice(line.as_bytes())?;
+    }
+    Ok(text)
+}
+
+// The moves come as the vain sweep still goes over the other regions, so that its member may come to sleep after the last of
+// them alone. How soon that is depends on the machine, so it is tried with many delays.
+#[test]
+fn a_member_is_told_of_moves_during_its_sweep(rt: HostRuntime) -> Result<(), Fail> {
+    let text = last_ones(rt.alloc(), 506)?;
+    for round in 0..48_u32 {
+        let observer = LastMoves::new(510, 1 << (round % 16), false);
+        let woken = three_members(&rt, rt.alloc(), &text, 512, &observer)?;
+        assert!(rt; woken, "a member sleeps though all regions are at the goal");
+        assert!(rt; observer.took_place(), "each came to its part");
+    }
+    Ok(())
+}
+
+// The moves come once that member sleeps, each of them in a sweep that has moved a region before.
+#[test]
+fn a_member_is_told_of_moves_after_the_first_of_a_sweep(rt: HostRuntime) -> Result<(), Fail> {
+    let text = last_ones(rt.alloc(), 0)?;
+    let observer = LastMoves::new(4, 100_000, true);
+    let woken = three_members(&rt, rt.alloc(), &text, 6, &observer)?;
+    assert!(rt; woken, "a member sleeps though all regions are at the goal");
+    assert!(rt; observer.took_place(), "each came to its part");
     Ok(())
 }

@@ -11,9 +11,10 @@ use Rattle.no_memory.specs.declared.refused.Refused.TheVariants.{Fault, NoMemory
 use Rattle.network_file.specs.declared.fault.NetFault.{NetFault}
 use Rattle.plan_choice.specs.Pieces.{candidates_in}
 use Rattle.plan_choice.proofs.Sizes.{file-few}
-use Rattle.call_ending.specs.Refusing.{IsRefusalOf, Why}
+use Rattle.call_ending.specs.Refusing.{IsRefusalOf}
+use Rattle.call_ending.specs.Why.{Why}
 use Rattle.call_ending.specs.declared.refusal.Refusal.{Refusal}
-use Rattle.call_beginning.specs.NetworkInput.{IsToldOf}
+use Rattle.call_beginning.specs.Refused.{IsToldOf}
 use Rattle.workerless_modes.specs.ChooseMode.{IsChooseText, IsChosenOf, candidate_refused, choose_refused, plans_refused, why_of_candidate, why_of_candidates}
 
 -- nothing stands against the first candidates, which were read as these networks

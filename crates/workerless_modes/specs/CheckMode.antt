@@ -1,10 +1,10 @@
 -- The counts of a network: why there are none, and their text.
 use Rattle.std.specs.Prelude.{◌≡◌, ℕ, List, [], Option, None, ◌++◌, ◌==◌, if◌then◌else◌, length, codes, nat_le, IsOkAnd}
-use Rattle.signal_plan.specs.Counts.{counts_of}
+use Rattle.step_plan.specs.Counts.{counts_of}
 use Rattle.network_file.specs.Network.{Network}
 use Rattle.network_file.specs.Reading.{network_of}
 use Rattle.line_fields.specs.Fields.{count_field}
-use Rattle.call_ending.specs.Refusing.{Why}
+use Rattle.call_ending.specs.Why.{Why}
 use Rattle.call_beginning.specs.NetworkInput.{why_of_network}
 
 abbrev pub check_refused : (input : List ℕ) → Option Why

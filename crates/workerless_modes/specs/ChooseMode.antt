@@ -6,7 +6,7 @@ use Rattle.network_file.specs.declared.fault.NetFault.{NetFault}
 use Rattle.line_fields.specs.Fields.{amount_field, count_field, lines_of}
 use Rattle.plan_choice.specs.Choice.{IsChoice, whole_delay}
 use Rattle.plan_choice.specs.Pieces.{candidates_in}
-use Rattle.call_ending.specs.Refusing.{Why}
+use Rattle.call_ending.specs.Why.{Why}
 use Rattle.call_ending.specs.declared.status.Status.TheVariants as status
 use Rattle.call_beginning.specs.NetworkInput.{fault_told}
 

@@ -2,7 +2,7 @@
 use Rattle.std.specs.Prelude.{◌≡◌, ℕ, List, Option, None}
 use Rattle.converted_file.specs.Converted.{converted}
 use Rattle.network_file.specs.Reading.{network_of}
-use Rattle.call_ending.specs.Refusing.{Why}
+use Rattle.call_ending.specs.Why.{Why}
 use Rattle.call_beginning.specs.NetworkInput.{why_of_network}
 
 abbrev pub convert_refused : (input : List ℕ) → Option Why

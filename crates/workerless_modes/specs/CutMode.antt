@@ -1,5 +1,5 @@
 -- A grown cutting of a network: why there is none, and its text.
-use Rattle.std.specs.Prelude.{◌≡◌, ℕ, ◌≤◌, ◌++◌, List, Option, None, codes, length, IsOkAnd}
+use Rattle.std.specs.Prelude.{◌≡◌, ℕ, ◌++◌, List, Option, None, codes, length, IsOkAnd}
 use Rattle.network_file.specs.Cells.{name_at}
 use Rattle.network_file.specs.Network.{Network}
 use Rattle.network_file.specs.Reading.{network_of}
@@ -7,7 +7,7 @@ use Rattle.line_fields.specs.Fields.{count_field, lines_of}
 use Rattle.region_cut.specs.Cuttings.{even_cutting, region_at}
 use Rattle.cut_grow.specs.CutConnectors.{cuts}
 use Rattle.cut_grow.specs.Grown.{IsGrown}
-use Rattle.call_ending.specs.Refusing.{Why}
+use Rattle.call_ending.specs.Why.{Why}
 use Rattle.call_beginning.specs.NetworkInput.{why_of_network}
 use Rattle.call_beginning.specs.Task.{Task}
 use Rattle.call_beginning.specs.UsedCutting.{regions_asked}
@@ -30,8 +30,6 @@ cutting_text net k list =
 pub record ShowsGrown (net : Network) (k : ℕ) (text : List ℕ) : Type 0 where
   pub list : List ℕ
   pub grown : IsGrown net k list
-  -- it cuts no more than the even one
-  pub no_more : cuts list net ≤ cuts (even_cutting (length net.cells) k) net
   pub text_is : text ≡ cutting_text net k list
 
 -- the regions of the file aren't looked at

@@ -1,5 +1,5 @@
 ghost use Rattle.std.specs.Prelude.{◌≡◌, ◌≤◌, ◌++◌, ◌==◌, [], codes, if◌then◌else◌, length, nat_le, IfErr, IfOk, None, OnOk};
-ghost use Rattle.signal_plan.specs.Counts.{counts_of};
+ghost use Rattle.step_plan.specs.Counts.{counts_of};
 ghost use Rattle.network_file.specs.declared.limits.TheConstants.{MOST_BYTES};
 ghost use Rattle.line_fields.specs.Fields.{count_field};
 ghost use Rattle.call_ending.specs.Refusing.{IsRefusalOf};

@@ -2,8 +2,10 @@ ghost use Rattle.std.specs.Prelude.{◌≡◌, ◌<◌, ◌≤◌, ◌++◌, ◌
 ghost use Rattle.network_file.specs.Reading.{network_of};
 ghost use Rattle.network_file.specs.declared.limits.TheConstants.{MOST_BYTES};
 ghost use Rattle.line_fields.specs.Fields.{lines_of};
-ghost use Rattle.call_ending.specs.Refusing.{IsRefusalOf, Why};
-ghost use Rattle.call_beginning.specs.NetworkInput.{IsToldOf, fault_told};
+ghost use Rattle.call_ending.specs.Refusing.{IsRefusalOf};
+ghost use Rattle.call_ending.specs.Why.{Why};
+ghost use Rattle.call_beginning.specs.NetworkInput.{fault_told};
+ghost use Rattle.call_beginning.specs.Refused.{IsToldOf};
 ghost use Rattle.workerless_modes.specs.ChooseMode.{IsChooseText, IsChosenAmong, IsChosenOf, candidate_refused, choice_text, choose_refused, plan_line, plans_refused, why_of_candidate, why_of_candidates};
 
 use call_beginning::put_fault;

@@ -8,7 +8,7 @@ use call_ending::Refusal;
 use converted_file::convert;
 use std::alloc::Global;
 
-/// The file in the newest format.
+/// The file written again: in format 3 where that is its own, and else in format 2.
 pub fn convert_text(alloc: Global, input: &[u8]) -> Result<Vec<u8>, Refusal>
     requires few_bytes { length input.now ≤ MOST_BYTES }
     ensures text { IfOk result (λ text. (convert_refused input.now ≡ None) × IsConvertText input.now text.items) }

@@ -1,17 +1,13 @@
-//! `worst_cells < FILE` tells the three cells of a network in which most delay arises: the crates of `ctm` as another program
-//! uses them. Four workers take the network through its steps in sixteen regions.
+//! `worst_cells < FILE` tells the three cells of a network in which most delay arises: the library `ctm` as another program
+//! uses it. Four workers take the network through its steps in sixteen regions.
 #![tactic(auto)]
 
 mod worst;
 
-use call_ending::{Cause, Line, Refusal, end};
-use ctm_ports::{ReadEnd, Source, StdSink, StdSource, read_up_to};
-use delay_report::run_rows;
-use network_file::{MOST_BYTES, Net};
-use network_run::last_regions;
-use no_memory::{NoMemory, Refused};
-use region_cut::charted;
-use region_slots::NoObserver;
+use ctm::{
+    Cause, Line, MOST_BYTES, Net, NoMemory, ReadEnd, Refusal, Refused, Run, Source, StdSink,
+    StdSource, charted, end, read_up_to,
+};
 use std::alloc::Global;
 use std::process::ExitCode;
 use std::thread::Threads;
@@ -55,9 +51,6 @@ fn told(cause: Cause, line: &'static [u8]) -> Refusal {
 
 // The lines for a network: its worst cells after all steps.
 fn lines<R: Threads + Sync>(rt: &R, alloc: Global, net: &Net) -> Result<Vec<u8>, NoMemory> {
-    let _steps = net.steps;
-    let layout = charted(alloc, net, 16)?;
-    let regions = last_regions(rt, alloc, layout, 0, 4, &NoObserver)?;
-    let rows = run_rows(alloc, &regions)?;
-    worst_cells(alloc, &net.cells, &rows, CELLS)
+    let run = Run::of(rt, alloc, charted(alloc, net, 16)?, 0, 4)?;
+    worst_cells(alloc, &net.cells, &run.rows(alloc)?, CELLS)
 }

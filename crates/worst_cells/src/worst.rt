@@ -1,7 +1,4 @@
-use flow_model::Row;
-use line_fields::put_amount;
-use network_file::Cell;
-use no_memory::NoMemory;
+use ctm::{Cell, NoMemory, Row, put_amount};
 use std::alloc::Global;
 
 /// A line for each of so many cells in which most delay arose, the most first: its name and its delay, in vehicles times

@@ -5,23 +5,54 @@ from __future__ import annotations
 import copy
 from collections.abc import Iterator, Sequence
 from fractions import Fraction
-from typing import Any
+from itertools import groupby
+from typing import Any, TypeVar
 
-import numpy
-
-from ..study.plan import Study
+from ..arrays import Numbers
+from ..network_file.kinds import Record, file_text, record
+from ..study.network_text import Built, form_of
+from ..study.plan import Scenario
+from ..texts.quantities import DAY
 from .forks import Fork, pairs_of
-from .shared_network import spans
 
-Numbers = numpy.ndarray
-DAY = 86400
+Value = TypeVar("Value")
+
 DECIMALS = 9  # of a flow in vehicles/h that has more
+
+
+class SharedNetwork:
+    """A built network, and the places of the diverges whose shares are put in."""
+
+    def __init__(self, built: Built) -> None:
+        self.built = built
+        self.diverges = {one.values[0]: place for place, one in enumerate(built.network.records) if one.kind == "diverge"}
+
+    def content(self, forks: Sequence[Fork], parts: Sequence[Numbers], bounds: Numbers) -> bytes:
+        """The bytes of the network's file with the shares of the forks, which change at the bounds."""
+        records, turns = list(self.built.network.records), list[Record]()
+        for fork, own in zip(forks, parts):
+            for cell, pairs in zip(fork.cells, pairs_of(own)):
+                place = self.diverges[cell]
+                records[place] = record("diverge", *records[place].values[:3], *pairs[0])
+                turns += [record("turn", cell, begin, end, *pair) for begin, end, pair in spans(pairs, bounds) if pair != pairs[0]]
+        return file_text(form_of([*records, *turns]), [*records, *turns]).encode()
+
+
+def spans(values: Sequence[Value], bounds: Numbers) -> list[tuple[int, int, Value]]:
+    """Values of spans that follow each other, with those that are alike as one: from, to and the value."""
+    found: list[tuple[int, int, Value]] = []
+    place = 0
+    for value, group in groupby(values):
+        count = sum(1 for _ in group)
+        found.append((int(bounds[place]), int(bounds[place + count]), value))
+        place += count
+    return found
 
 
 class AssignedStudy:
     """Makes the values of the study's file."""
 
-    def __init__(self, study: Study, values: dict[str, Any], forks: Sequence[Fork], parts: Sequence[Numbers],
+    def __init__(self, study: Scenario, values: dict[str, Any], forks: Sequence[Fork], parts: Sequence[Numbers],
                  bounds: Numbers) -> None:
         self.study, self.bounds = study, bounds
         self.values = copy.deepcopy(values)

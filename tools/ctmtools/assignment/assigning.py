@@ -5,37 +5,32 @@ from __future__ import annotations
 from collections.abc import Iterator
 from dataclasses import dataclass, replace
 
-import numpy
 
+from ..arrays import Numbers
 from ..network_file.network import Network
 from ..problem import Problem
-from ..program import recording_step
+from ..program.calls import recording_step
 from ..report.reading import Report
-from ..running import run
+from ..runs.running import run
 from ..study.network_text import Builder
-from ..study.plan import Study
+from ..study.plan import Scenario
 from ..yielding.settling import DAMPING, LEAST_MOVE, limited, wanted_of
 from ..yielding.yielding import Yielding
-from .choices import Choice
-from .courses import Courses
-from .departures import Departures, departures_of
-from .forks import Rounded, exits_ahead, forks_of, parts_of, refuse_shares
+from .assigned_study import SharedNetwork
+from .choices import Choice, Departures, departures_of
+from .closed_branches import let_through
+from .courses import Courses, loaded, moved, share_bounds
 from .first_ways import given_choice
+from .forks import Rounded, exits_ahead, forks_of, parts_of, refuse_shares
 from .legs import Legs
-from .loading import loaded, moved, share_bounds
 from .passing import Passing, Passings
 from .searching import Search
-from .shared_network import SharedNetwork
-from .swapping import Pace, swap
-from .times import Gap, gap_of, times_of
-from .closed_branches import let_through
+from .times import Gap, Pace, gap_of, swap, times_of
 from .ways_file import WayRow, rows_of
 
 EXACT = 1_000_000  # cells times steps; so many at most are recorded step by step, which makes all times exact
 RECORDED = 6  # so often in an interval of choice runs of more are recorded, where steps and the program allow it
 LEAST_RECORDED = 60  # so often in such a run at least
-
-Numbers = numpy.ndarray
 
 
 def recorded_every(steps: int, cells: int, width: int) -> int:
@@ -67,14 +62,14 @@ class Round:
 class Assignment:
     """A study's trips on their ways. `forks` have the shares that follow, `report` is that of the last round's run."""
 
-    def __init__(self, study: Study, workers: int | None = None, program: str | None = None) -> None:
+    def __init__(self, study: Scenario, workers: int | None = None, program: str | None = None) -> None:
         if not study.trips:
             raise Problem(f"{study.path}: trips: are missing; without them nobody chooses a way")
         self.study, self.workers, self.program = study, workers, program
         self.let_through = let_through(study)
         study.yields = [replace(one, capacities=[]) for one in study.yields]  # the rounds work out what passes
         builder = Builder(study)
-        self.shared = SharedNetwork(builder)
+        self.shared = SharedNetwork(builder.build())
         self.network: Network = self.shared.built.network
         if self.network.demands.empty:
             raise Problem(f"{study.path}: trips: nobody sets out, to a millionth of a vehicle in a step")
@@ -92,7 +87,7 @@ class Assignment:
         self.bounds = share_bounds(self.departures.width, self.network.steps, sum(len(fork.cells) for fork in self.forks))
         self.choices: list[Choice] = [given_choice(study, self.legs, self.shared.built.units, trips, self.departures)
                                       for trips in study.trips]
-        self.every = recorded_every(self.network.steps, len(self.network.cells), self.departures.width)
+        self.every = recorded_every(self.network.steps, len(self.network.kinds), self.departures.width)
         self.crowded: set[tuple[str, str]] = set()  # the pairs for whose quickest ways there is no room
         self.times: list[Numbers] = []
         self.parts: list[Numbers] = []
@@ -133,7 +128,7 @@ class Assignment:
         self._find()
         self._measure()
         assert self.report is not None  # the run gave it
-        gap, delay = gap_of(self.choices, self.departures, self.times), self.report.units.hours(self.report.total.delay)
+        gap, delay = gap_of(self.choices, self.departures, self.times), self.report.units.hours(self.report.sums.delay)
         shifted = moved(self.counts, self._loaded(), self.bounds, self.departures.width)
         return Round(number, gap, shifted, delay, changed, self.limits_moved)
 
@@ -146,7 +141,7 @@ class Assignment:
         self.parts = [parts_of(fork, counts, self.ahead) for fork in self.forks]
         content = self.shared.content(self.forks, self.parts, self.bounds)
         self.text, self.report = run(content, self.study.path.name, self.shared.built.units, self.every, self.workers,
-                                     self.program, network=self.network)
+                                     program=self.program, network=self.network)
         self.passing = self.passings.of(self.report)
         self.wanted = wanted_of(self.yielding, dict.fromkeys((one.width for one in self.yielding), self.report))
         self.limits_moved = max((one.move(rates) for one, rates in zip(self.yielding, self.wanted)), default=0.0)
@@ -154,7 +149,7 @@ class Assignment:
     def _limit(self, part: float) -> None:
         """Has those who give way pass in the next round what the flows of the last one let, a part of the way there."""
         if self.yielding:
-            self.shared = SharedNetwork(Builder(limited(self.study, self.yielding, self.wanted, part)))
+            self.shared = SharedNetwork(Builder(limited(self.study, self.yielding, self.wanted, part)).build())
 
     def _find(self) -> None:
         """Adds to each pair that seeks ways those of the least time in each interval."""

@@ -11,15 +11,15 @@ from collections.abc import Iterator
 from dataclasses import replace
 from fractions import Fraction
 
-from ..amounts import PARTS
 from ..study.network_text import Builder
-from ..study.plan import Closure, Study
+from ..study.plan import Closure, Scenario
+from ..texts.amounts import PARTS
+from ..texts.quantities import HOUR
 
 SHARE = 1000  # the least share is a little less than 1 in so many
-HOUR = 3600
 
 
-def let_through(study: Study) -> dict[str, Fraction]:
+def let_through(study: Scenario) -> dict[str, Fraction]:
     """Gives such closures of a study their capacity; by their places what they let through, in vehicles/h."""
     if not study.closures:
         return {}
@@ -29,7 +29,7 @@ def let_through(study: Study) -> dict[str, Fraction]:
     return found
 
 
-def _closed(study: Study) -> Iterator[tuple[str, Fraction]]:
+def _closed(study: Scenario) -> Iterator[tuple[str, Fraction]]:
     """The closures that leave nothing on a branch of a diverge that goes by the trips, and what comes there at most."""
     builder = Builder(study)
     capacities = {cell.name: cell.most for cells in builder.layout.cells.values() for cell in cells}

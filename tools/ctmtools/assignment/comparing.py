@@ -6,9 +6,9 @@ from collections.abc import Iterator, Sequence
 
 import pandas
 
-from ..report.summary import number_text
 from ..report.reading import Report
-from ..text_table import table
+from ..report.summary import number_text
+from ..texts.text_table import table
 from .ways_file import WayRow, ways_of_report
 
 MOST_PAIRS = 10  # so many pairs are told, those with the greatest changes
@@ -39,8 +39,8 @@ def pair_changes(first: Report, second: Report) -> Iterator[str]:
         return
     frame = compare_pairs(one, two)
     gained, lost = int((frame.rise <= -LEAST).sum()), int((frame.rise >= LEAST).sum())
-    yield (f"\nOf {len(frame)} pairs {gained} gained and {lost} lost; the mean from gate to exit in min, the greatest "
-           "changes:\n")
+    yield from ("", f"Of {len(frame)} pairs {gained} gained and {lost} lost; the mean from gate to exit in min, the greatest "
+                "changes:", "")
     rows = [(source, into, number_text(row.vehicles_second), number_text(row.minutes_first), number_text(row.minutes_second), _signed(row.rise),
              _signed(row.hours)) for (source, into), row in frame[:MOST_PAIRS].iterrows()]
     yield from table([("from", "to", "vehicles", "A", "B", "B - A", "vehicle-hours"), *rows], right=range(2, 7))

@@ -7,14 +7,13 @@ from collections.abc import Sequence
 import numpy
 from scipy.sparse import csr_matrix
 
-from ..report.curves import left_at
-from .choices import Choice
-from .departures import Departures
+from ..arrays import Numbers, Wholes, left_at
+from .choices import Choice, Departures
 from .passing import Passing, in_turn
 
 MOST_MOMENTS = 2_000_000  # that are worked out at once
-
-Numbers = numpy.ndarray
+MOST_SHARES = 50_000  # diverges times spans of shares, about
+FINEST = 30  # spans of shares in an interval of choice, at most
 
 
 class Courses:
@@ -30,8 +29,8 @@ class Courses:
         self.pairs = numpy.repeat(numpy.arange(len(choices)), [len(choice.ways) for choice in choices])
         ways = [way for choice in choices for way in choice.ways]
         self.arrived = numpy.tile(departures.bounds, (len(ways), 1))
-        rows: list[Numbers] = []
-        legs: list[Numbers] = []
+        rows: list[Wholes] = []
+        legs: list[Wholes] = []
         origins: list[Numbers] = []
         at_once = max(1, MOST_MOMENTS // len(departures.bounds))
         for first in range(0, len(ways), at_once):
@@ -53,3 +52,35 @@ def _origins(moments: Numbers, bounds: Numbers) -> Numbers:
     last = moments.shape[1] - 1
     found = left_at(numpy.arange(last + 1.0), moments, numpy.tile(bounds, (len(moments), 1)))
     return numpy.where(numpy.isnan(found), last, found)
+
+
+def loaded(choices: Sequence[Choice], courses: Courses) -> Numbers:
+    """The vehicles that enter each leg in each span of shares: a row for each leg, of which gates have none.
+
+    The cumulative departures on a way, moved to the moments at which they leave each leg, are those into the next one.
+    """
+    departures = courses.departures
+    parts = numpy.concatenate([choice.parts for choice in choices])
+    vehicles = numpy.repeat(parts, departures.parts, axis=1) * departures.vehicles[courses.pairs]
+    come = numpy.hstack([numpy.zeros((len(vehicles), 1)), numpy.cumsum(vehicles, axis=1)])
+    span = numpy.minimum(courses.origins, vehicles.shape[1] - 1).astype(int)
+    rows = courses.rows[:, None]
+    before = come[rows, span]
+    passed = before + (courses.origins - span) * (come[rows, span + 1] - before)
+    counts: Numbers = courses.into @ numpy.diff(passed, axis=1)
+    return counts
+
+
+def share_bounds(width: int, steps: int, diverges: int) -> Numbers:
+    """The steps at which shares may change: those of the intervals of choice, and between them as finely as they are few."""
+    count = max(1, min(FINEST, width, MOST_SHARES * width // max(1, diverges * steps)))
+    span = next(span for span in range(-(-width // count), width + 1) if width % span == 0)
+    return numpy.append(numpy.arange(0, steps, span), steps).astype(float)
+
+
+def moved(before: Numbers, after: Numbers, bounds: Numbers, width: int) -> float:
+    """The part of all that comes to branches by which two loadings differ, by intervals of choice of so many steps."""
+    total = after.sum()
+    firsts = numpy.flatnonzero(bounds[:-1] % width == 0)
+    change = numpy.add.reduceat(after - before, firsts, axis=1)
+    return float(numpy.abs(change).sum() / 2 / total) if total else 0.0

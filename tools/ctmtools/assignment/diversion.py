@@ -7,27 +7,31 @@ from pathlib import Path
 
 import numpy
 
+from ..arrays import Numbers
 from ..problem import Problem
+from ..study.folder import file_beside
 from ..study.plan import Route
-from ..study.reading import read_study
+from ..study.reading import read_scenario
 from ..units import clock_text
 from .assigning import Assignment
 from .choices import Choice
-from .first_ways import way_of
-from .legs import Way
+from .first_ways import legs_of_route
+from .legs import RouteLegs
 from .ways_file import LEAST, WayRow, read_ways
 
 ALIKE = "trips and the interval of choice have to be the same"
 
-Numbers = numpy.ndarray
-
 
 def ways_of_study(path: str | Path) -> list[WayRow]:
     """The ways of a study that `assign` made."""
-    study = read_study(path)
+    study = read_scenario(path)
     if study.ways is None:
         raise Problem(f"{path}: has no ways; `ctm-tools assign` makes a study that has them")
-    return read_ways(Path(path).parent / study.ways)
+    try:
+        ways = file_beside(study.path, study.ways, "assigned.ways")
+    except Problem as problem:
+        raise Problem(f"{path}: {problem}") from None
+    return read_ways(ways)
 
 
 def divert(assignment: Assignment, rows: Sequence[WayRow], informed: float, after: float | None = None) -> None:
@@ -52,13 +56,13 @@ def divert(assignment: Assignment, rows: Sequence[WayRow], informed: float, afte
         choice.keep(_parts(assignment, choice, own, ways, vehicles), parts)
 
 
-def _way(assignment: Assignment, choice: Choice, roads: tuple[str, ...]) -> Way:
+def _way(assignment: Assignment, choice: Choice, roads: tuple[str, ...]) -> RouteLegs:
     place = f"the earlier assignment's ways from {choice.source} to {choice.into}"
-    return way_of(Route(choice.source, choice.into, list(roads), [], place), assignment.study, assignment.legs,
+    return legs_of_route(Route(choice.source, choice.into, list(roads), [], place), assignment.study, assignment.legs,
                   assignment.shared.built.units)
 
 
-def _parts(assignment: Assignment, choice: Choice, rows: Sequence[WayRow], ways: dict[tuple[str, ...], Way],
+def _parts(assignment: Assignment, choice: Choice, rows: Sequence[WayRow], ways: dict[tuple[str, ...], RouteLegs],
            vehicles: Numbers) -> Numbers:
     """The part of a pair's drivers on each way in each interval, by the ways of their roads."""
     departures, study = assignment.departures, assignment.study
@@ -76,4 +80,5 @@ def _parts(assignment: Assignment, choice: Choice, rows: Sequence[WayRow], ways:
         raise Problem(f"{study.path}: the earlier assignment has nobody from {choice.source} to {choice.into} who sets out at "
                       f"{clocks[lost[0]]}; {ALIKE}")
     taken[0] += (vehicles > 0) & (totals == 0)  # so few that the earlier assignment didn't write them
-    return taken / numpy.where(taken.any(axis=0), taken.sum(axis=0), 1)
+    parts: Numbers = taken / numpy.where(taken.any(axis=0), taken.sum(axis=0), 1)
+    return parts

@@ -8,22 +8,19 @@ import networkx
 import numpy
 
 from ..problem import Problem
-from ..study.plan import Route, Study, Trips
+from ..study.plan import Route, Scenario, Trips
 from ..units import Units, clock_text
-from .choices import Choice
-from .departures import Departures
-from .legs import Legs, Way
-
-Numbers = numpy.ndarray
+from .choices import Choice, Departures
+from .legs import Legs, RouteLegs
 
 
-def given_choice(study: Study, legs: Legs, units: Units, trips: Trips, departures: Departures) -> Choice:
+def given_choice(study: Scenario, legs: Legs, units: Units, trips: Trips, departures: Departures) -> Choice:
     """The choice of a pair with its first ways, or the problem that there is none."""
     choice = Choice(trips.source, trips.into, numpy.full(departures.intervals, float(study.routing.informed)),
                     study.routing.ways)
     routes = [route for route in study.routes if (route.source, route.into) == (trips.source, trips.into)]
     if routes:
-        ways = [way_of(route, study, legs, units) for route in routes]
+        ways = [legs_of_route(route, study, legs, units) for route in routes]
         choice.most = max(choice.most, len(ways))
         for way in ways:
             choice.put(way)
@@ -40,7 +37,7 @@ def given_choice(study: Study, legs: Legs, units: Units, trips: Trips, departure
     return choice
 
 
-def _share(choice: Choice, routes: Sequence[tuple[Route, Way]], study: Study, departures: Departures) -> None:
+def _share(choice: Choice, routes: Sequence[tuple[Route, RouteLegs]], study: Scenario, departures: Departures) -> None:
     """Parts the drivers of a pair as its routes say; in each interval the share at its middle counts."""
     choice.given = True
     step, width = float(study.step), departures.width
@@ -58,7 +55,7 @@ def _share(choice: Choice, routes: Sequence[tuple[Route, Way]], study: Study, de
     choice.kept = choice.chosen.copy()
 
 
-def way_of(route: Route, study: Study, legs: Legs, units: Units) -> Way:
+def legs_of_route(route: Route, study: Scenario, legs: Legs, units: Units) -> RouteLegs:
     """The way that a study gives: by the nearest cell of each of its roads in turn, and on to the exit."""
     return legs.along(cells_along(route, legs.network.graph, units.roads, f"{study.path}: {route.place}.roads"))
 

@@ -14,17 +14,16 @@ from functools import lru_cache
 import networkx
 import numpy
 
+from ..arrays import Flags, Numbers
 from ..problem import Problem
 from ..study.network_text import Builder
 from ..study.plan import Crossing
-from ..study.rounding import TOLD
+from ..study.scale import TOLD
 from .legs import END, Legs
 
 WHOLE = 1_000_000  # what the parts of a fork are together
 SAME = 50  # of the whole; parts that differ by less are the same
 LEAST_COMING = 1e-6  # vehicles; where fewer come in a span it has the shares of the one before it
-
-Numbers = numpy.ndarray
 
 
 @dataclass(frozen=True)
@@ -84,7 +83,7 @@ def refuse_shares(builder: Builder, legs: Legs) -> None:
                           "so it has no shares of its own; leave them out")
 
 
-def exits_ahead(legs: Legs, exits: Sequence[str]) -> Numbers:
+def exits_ahead(legs: Legs, exits: Sequence[str]) -> Flags:
     """For each leg the steps at free flow to the nearest of some exits; infinite where none is ahead."""
     back = legs.graph.reverse(copy=False)
     targets = {(END, name) for name in exits} & set(back)
@@ -92,7 +91,7 @@ def exits_ahead(legs: Legs, exits: Sequence[str]) -> Numbers:
     return numpy.array([float(found.get(number, numpy.inf)) for number in range(len(legs.legs))])
 
 
-def parts_of(fork: Fork, counts: Numbers, ahead: Numbers) -> Numbers:
+def parts_of(fork: Fork, counts: Numbers, ahead: Flags) -> Numbers:
     """What of a million goes into each branch in each span, as whole numbers: a row for each branch.
 
     Where nobody comes in a span the one before it counts, at first the one behind. Where nobody ever comes but those whom

@@ -34,7 +34,7 @@ class Leg:
     follows: tuple[int, ...] = ()
 
 
-Way = tuple[int, ...]  # the numbers of legs that follow each other, from a gate to an exit
+RouteLegs = tuple[int, ...]  # the numbers of legs that follow each other, from a gate to an exit
 
 
 class Legs:
@@ -91,11 +91,11 @@ class Legs:
             self.chains.append(cells)
         return self._chain_of[first]
 
-    def cells(self, way: Way) -> list[str]:
+    def cells(self, way: RouteLegs) -> list[str]:
         """The cells of a way in their order."""
         return [cell for leg in way for chain in self.legs[leg].chains for cell in self.chains[chain]]
 
-    def along(self, cells: Sequence[str]) -> Way:
+    def along(self, cells: Sequence[str]) -> RouteLegs:
         """The way whose cells from a gate to an exit these are."""
         diverges = set(self.diverges)
         return self.gates[cells[0]], *(self.of_start[down] for up, down in zip(cells, cells[1:]) if up in diverges)
@@ -122,7 +122,7 @@ class Legs:
                 graph.add_edges_from(((number, node) for node in behind), steps=max(1, self.steps(number)))
         return graph
 
-    def free_ways(self, source: str, into: str, most: int) -> list[Way]:
+    def free_ways(self, source: str, into: str, most: int) -> list[RouteLegs]:
         """The ways of the least steps from a gate to an exit, at most so many; none where no way leads there."""
         target = END, into
         if target not in self.graph:
@@ -135,7 +135,8 @@ class Legs:
 
     def farthest(self, source: str) -> str:
         """The last cell that is reached from a gate, by the steps from there."""
-        reached = networkx.single_source_dijkstra_path_length(self.graph, self.gates[source], weight="steps")
+        reached: dict[int | tuple[str, str], int | Fraction] = networkx.single_source_dijkstra_path_length(
+            self.graph, self.gates[source], weight="steps")
         driven = [node for node in reached if not isinstance(node, tuple) and self.legs[node].chains]
-        last = self.legs[max(driven, key=lambda node: reached[node])]
+        last = self.legs[max(driven, key=reached.__getitem__)]
         return self.chains[last.chains[-1]][-1]

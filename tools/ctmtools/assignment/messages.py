@@ -7,8 +7,8 @@ from collections.abc import Iterator, Sequence
 import numpy
 
 from ..report.summary import number_text
-from ..study.plan import Study
-from ..text_table import table
+from ..study.plan import Scenario
+from ..texts.text_table import table
 from ..units import clock_text
 from .assigning import Assignment, Round
 from .ways_file import THEN, WayRow
@@ -36,7 +36,7 @@ def not_settled(assignment: Assignment, rounds: Sequence[Round], gap: float) -> 
         yield (f"warning: {len(assignment.crowded)} pairs have as many ways as routing.ways says, and quicker ones were found, as "
                f"from {source} to {into}; more ways may help")
     assert assignment.report is not None  # a round was made
-    inside = float(assignment.report.total.inside)
+    inside = float(assignment.report.sums.inside)
     if inside > 1:
         yield (f"warning: {number_text(inside)} vehicles are still inside at the end, and their times go on as if the queues did; a "
                "longer study tells them")
@@ -69,7 +69,7 @@ def rounded_lines(assignment: Assignment) -> Iterator[str]:
         yield "All shares are modelled as asked, to 0.1 % of the lesser branch."
 
 
-def settled_lines(study: Study, last: Round, final: Round) -> Iterator[str]:
+def settled_lines(study: Scenario, last: Round, final: Round) -> Iterator[str]:
     """What the run of the written study has otherwise than the last round, where it works out what passes."""
     figures = [(number_text(one.delay), f"{one.gap.relative:.5f}") for one in (final, last)]
     if figures[0] == figures[1]:
@@ -77,10 +77,10 @@ def settled_lines(study: Study, last: Round, final: Round) -> Iterator[str]:
     (delay, gap), (delay_before, gap_before) = figures
     found = f"{delay} vehicle-hours of delay and a gap of {gap}, the last round {delay_before} and {gap_before}"
     if study.actuated:
-        yield (f"\nwarning: greens that follow traffic are worked out in the run of the written study alone, which has {found}; drivers "
-               "chose without them")
+        yield from ("", f"warning: greens that follow traffic are worked out in the run of the written study alone, which has {found}; "
+                    "drivers chose without them")
     elif study.yields:
-        yield f"\nThe run of the written study works out anew what passes of those who give way; it has {found}."
+        yield from ("", f"The run of the written study works out anew what passes of those who give way; it has {found}.")
 
 
 def pair_lines(rows: Sequence[WayRow]) -> Iterator[str]:

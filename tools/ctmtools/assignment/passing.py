@@ -12,8 +12,9 @@ from collections.abc import Iterable, Iterator, Sequence
 import numpy
 from scipy.interpolate import interp1d
 
-from ..report.curves import left_at
+from ..arrays import Numbers, Wholes, left_at
 from ..report.reading import Report
+from ..texts.amounts import PARTS
 from .legs import Legs
 
 LEFT_BEHIND = 0.01  # vehicles; the rounding of a diverge leaves up to 0.002 in the cell before it
@@ -22,8 +23,6 @@ CLOSED = 0.02  # a capacity of less than this part of the cell's own lets nobody
 MOMENTS = 800  # of a grid, about
 LEAST = 1e-9  # of a span of the grid, which rounding may leave of nothing
 SPAN = 20  # of so many parts of the run the last one tells how fast a queue that is left at the end goes on
-
-Numbers = numpy.ndarray
 
 
 class Passing:
@@ -41,11 +40,11 @@ class Passing:
         for numbers, own in in_turn([leg.chains for leg in legs.legs]):
             self.left[numbers] = self._read(chains, own, self.left[numbers])
 
-    def through(self, legs: Numbers, entered: Numbers) -> Numbers:
+    def through(self, legs: Wholes, entered: Numbers) -> Numbers:
         """When those leave legs that enter them at some moments: a row for each of these legs."""
         return self._read(self.left, legs, entered)
 
-    def _read(self, curves: Numbers, rows: Numbers, moments: Numbers) -> Numbers:
+    def _read(self, curves: Numbers, rows: Wholes, moments: Numbers) -> Numbers:
         """What rows of curves over the grid have at the moments of each; behind the grid they rise as time does."""
         last = len(self.grid) - 2
         within = numpy.minimum(moments, self.grid[-1])
@@ -54,10 +53,11 @@ class Passing:
         begin, rows = self.grid[span], rows[:, None]
         part = (within - begin) / (self.grid[span + 1] - begin)
         before = curves[rows, span]
-        return before + part * (curves[rows, span + 1] - before) + (moments - within)
+        read: Numbers = before + part * (curves[rows, span + 1] - before) + (moments - within)
+        return read
 
 
-def in_turn(rows: Sequence[Sequence[int]]) -> Iterator[tuple[Numbers, Numbers]]:
+def in_turn(rows: Sequence[Sequence[int]]) -> Iterator[tuple[Wholes, Wholes]]:
     """The first members of all rows, then the second ones, and so on: the numbers of the rows that have one, and these."""
     for place in range(max(map(len, rows), default=0)):
         own = [number for number, row in enumerate(rows) if len(row) > place]
@@ -71,7 +71,7 @@ class Passings:
         self.legs = legs
         steps = legs.network.steps
         self.steps = steps
-        places = {cell: place for place, cell in enumerate(legs.network.cells.index)}
+        places = {cell: place for place, cell in enumerate(legs.network.kinds)}
         self.first = numpy.array([places[chain[0]] for chain in legs.chains])
         self.last = numpy.array([places[chain[-1]] for chain in legs.chains])
         self.cells = numpy.array([places[cell] for chain in legs.chains for cell in chain])
@@ -83,7 +83,7 @@ class Passings:
 
     def _closed(self, chain: Iterable[str]) -> Iterable[tuple[int, int, int]]:
         """For a chain's cells that let nobody through for some time: the place in it, and the steps from and to."""
-        capacity, limits = self.legs.network.cells.Q, self.legs.network.limits_of
+        capacity, limits = self.legs.network.capacities, self.legs.network.limits_of
         for place, cell in enumerate(chain):
             for begin, end, left in limits.get(cell, ()):
                 if left < CLOSED * capacity[cell]:
@@ -98,7 +98,7 @@ class Passings:
         """The passing of a run; between two records as many come in each moment."""
         recorded = numpy.asarray(report.times, dtype=float)
         grid = _finer(recorded)
-        departed, held = report.departed.to_numpy(), report.occupancy.to_numpy()
+        departed, held = report.records.left / PARTS, report.records.vehicles / PARTS
         come = (held[:, self.first] + departed[:, self.first]).T
         come += (numpy.add.reduceat(held[0, self.cells], self.begins) - held[0, self.first])[:, None]
         left = _queued(recorded, interp1d(recorded, come)(grid), numpy.ascontiguousarray(departed[:, self.last].T))
@@ -106,7 +106,7 @@ class Passings:
 
     def _soonest(self, entered: Numbers) -> Numbers:
         """When who enters each chain leaves it at the soonest: at free flow, but for the wait at closed cells."""
-        left = entered + self.lengths[:, None]
+        left: Numbers = entered + self.lengths[:, None]
         for chain in self.closed.keys() | self.slow:
             moments, place = entered, 0
             for cell, begin, end in self.closed.get(chain, ()):
@@ -124,14 +124,14 @@ class Passings:
         return self.legs.network.left_freely(self.legs.chains[chain][first:last], moments)
 
 
-def _finer(recorded: Numbers) -> Numbers:
+def _finer(recorded: Wholes) -> Numbers:
     """Moments between recorded steps, and these, but none within a step; the last of them may be nearer to the one before."""
     between = recorded[1] - recorded[0]
     width = between / max(1, min(int(between), round(MOMENTS / len(recorded))))
     return numpy.append(numpy.arange(numpy.ceil(recorded[-1] / width - LEAST)) * width, recorded[-1])
 
 
-def _queued(recorded: Numbers, come: Numbers, gone: Numbers) -> Numbers:
+def _queued(recorded: Wholes, come: Numbers, gone: Numbers) -> Numbers:
     """When who enters chains as these numbers leaves each by its curve; behind the run the queue goes on as at its end."""
     numbers = come - LEFT_BEHIND
     left = left_at(recorded, gone, numbers)

@@ -8,15 +8,14 @@ import numpy
 from scipy.sparse import csr_matrix
 from scipy.sparse.csgraph import dijkstra
 
-from .legs import Way
+from ..arrays import Numbers, Wholes
+from .legs import RouteLegs
 from .passing import Passing
 
 MOST_NODES = 40_000  # legs times slots
 MOST_SLOTS = 96
 MOST_VALUES = 20_000_000  # of one call of scipy's: exits times nodes
 LEAST = 1e-6  # steps; a branch that is an exit takes none, and an edge has to have a length
-
-Numbers = numpy.ndarray
 
 
 class Search:
@@ -49,11 +48,11 @@ class Search:
         return csr_matrix((times[own].ravel(), (rows, nodes[own].ravel())), (size, size))
 
     @staticmethod
-    def _numbers(pairs: Iterable[tuple[int, int]]) -> Numbers:
+    def _numbers(pairs: Iterable[tuple[int, int]]) -> Wholes:
         """The first numbers of pairs, and the second ones."""
         return numpy.array(list(pairs), dtype=int).reshape(-1, 2).T
 
-    def ways(self, wanted: Sequence[tuple[str, Sequence[tuple[str, float]]]]) -> Iterator[list[Way | None]]:
+    def ways(self, wanted: Sequence[tuple[str, Sequence[tuple[str, float]]]]) -> Iterator[list[RouteLegs | None]]:
         """For each exit the ways of the least time into it from each gate at each moment; None where there is none.
 
         As many exits as there is memory for are asked for in one call of scipy's.
@@ -66,7 +65,7 @@ class Search:
             for (into, starts), row in zip(group, behind):
                 yield [self._way(row, self.exits[into], gate, moment) for gate, moment in starts]
 
-    def _way(self, behind: Numbers, target: int, gate: str, moment: float) -> Way | None:
+    def _way(self, behind: Numbers, target: int, gate: str, moment: float) -> RouteLegs | None:
         """The legs from a gate at a moment on, by what stands behind each in the tree of an exit."""
         count = len(self.slots)
         slot = min(int(round(moment / self.slots[1])), count - 1)

@@ -9,17 +9,16 @@ from typing import Any
 
 import pandas
 
-from ..problem import Problem, one_line
-from ..program import program_path
-from ..study.plan import Study
-from ..study.reading import read_values, study_of
+from ..many_runs.results import Results
+from ..study.plan import Scenario
+from ..study.reading import scenario_of
 from ..study.times import Times
 from .assigning import Assignment, Round
-from .diversion import divert, ways_of_study
+from .diversion import divert
 from .ways_file import WayRow
 from .writing import Places, written
 
-MEASURES = ("rounds", "gap", "delay_vehicle_hours", "travel_vehicle_hours", "mean_minutes", "served_vehicles",
+MEASURES = ("rounds", "gap", "delay_vehicle_hours", "travel_vehicle_hours", "mean_minutes", "left_vehicles",
             "inside_vehicles")
 
 
@@ -39,7 +38,7 @@ class AssignTask:
 
 def begun(task: AssignTask, workers: int | None = None) -> Assignment:
     """The assignment of a task, before its first round."""
-    assignment = Assignment(study_of(task.values, Path(task.path)), workers, task.program)
+    assignment = Assignment(scenario_of(task.values, Path(task.path)), workers, task.program)
     if task.rows is not None:
         informed = float(assignment.study.routing.informed) if task.informed is None else task.informed
         divert(assignment, task.rows, informed, task.after)
@@ -51,35 +50,26 @@ def begun(task: AssignTask, workers: int | None = None) -> Assignment:
 
 
 def measure_assigned(task: AssignTask) -> dict[str, Any]:
-    """The measures of a task's last round, by name, and what went wrong, an empty text where nothing did."""
-    try:
-        assignment = begun(task, 1)
-        *_, last = assignment.rounds(task.gap, task.iterations)
-        return {**measures(assignment, last), "error": ""}
-    except Problem as problem:
-        return {**dict.fromkeys(MEASURES, float("nan")), "error": one_line(problem)}
+    """The measures of a task's last round, by name."""
+    assignment = begun(task, 1)
+    *_, last = assignment.rounds(task.gap, task.iterations)
+    return measures(assignment, last)
 
 
-def assigned_frame(source: str | Path, output: str | Path | None, earlier: str | Path | None, informed: float | None,
-                   after: str | None, gap: float, iterations: int) -> pandas.DataFrame:
-    """The ways of a study's assignment as a frame, whose attributes are the measures; with a place for it, it is written."""
-    values = read_values(source)
-    study = study_of(values, Path(source))
-    task = AssignTask(values, str(source), str(program_path()), ways_of_study(earlier) if earlier else None, informed,
-                      step_of(after, study), gap, iterations)
+def assigned_ways(task: AssignTask, output: str | Path | None, earlier: str | Path | None) -> Results:
+    """The ways of a study's assignment, and its measures; with a place for it, it is written."""
     places = None if output is None else Places(Path(output))
     if places:
-        places.guard(Path(source), Path(earlier) if earlier else None, named=True)
+        places.guard(Path(task.path), Path(earlier) if earlier else None)
     assignment = begun(task)
-    *_, last = assignment.rounds(gap, iterations)
+    *_, last = assignment.rounds(task.gap, task.iterations)
     if places:
-        last = written(assignment, last, values, places).last
-    frame = pandas.DataFrame(assignment.rows()).rename(columns={"source": "from", "into": "to"})
-    frame.attrs.update(measures(assignment, last))
-    return frame
+        last = written(assignment, last, task.values, places).last
+    rows = pandas.DataFrame(assignment.rows()).rename(columns={"source": "from", "into": "to"})
+    return Results(rows, figures=measures(assignment, last))
 
 
-def step_of(after: str | None, study: Study) -> float | None:
+def step_of(after: str | None, study: Scenario) -> float | None:
     """The step of a clock time from which on drivers choose anew."""
     return None if after is None else float(Times(study).after_start(after, "--after") / study.step)
 
@@ -92,4 +82,4 @@ def measures(assignment: Assignment, last: Round) -> dict[str, float]:
     vehicles = float(assignment.departures.vehicles.sum())
     hours = last.gap.all_ * step / 3600
     return dict(zip(MEASURES, (last.number, last.gap.relative, last.delay, hours, 60 * hours / vehicles if vehicles else 0.0,
-                               float(report.total.left), float(report.total.inside))))
+                               float(report.sums.left), float(report.sums.inside))))

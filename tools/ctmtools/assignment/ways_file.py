@@ -3,29 +3,26 @@
 from __future__ import annotations
 
 import csv
-import io
-from collections.abc import Iterator, Sequence
+from collections.abc import Iterable, Iterator, Sequence
 from dataclasses import dataclass
 from pathlib import Path
 
-import numpy
 
-from ..network_file.network import read_bytes
+from ..arrays import Numbers
+from ..files.reading import read_bytes
+from ..network_file.checksums import checksum
 from ..problem import Problem
 from ..report.reading import Report
-from ..checksums import checksum
+from ..texts.cells import rows_text, unguarded
 from ..units import Units, clock_text, seconds_of_clock
-from .choices import Choice
-from .departures import Departures
+from .choices import Choice, Departures
 from .first_ways import road_of
-from .legs import Legs, Way
+from .legs import Legs, RouteLegs
 
 COLUMNS = ("from", "to", "start", "way", "vehicles", "minutes", "roads")
 THEN = " > "  # between two roads
 LEAST = 5e-7  # vehicles; fewer aren't written
 MOST = 1e300  # vehicles and minutes are below
-
-Numbers = numpy.ndarray
 
 
 @dataclass(frozen=True)
@@ -46,7 +43,7 @@ class WayRow:
         return seconds_of_clock(self.start)
 
 
-def roads_of(legs: Legs, units: Units, way: Way) -> tuple[str, ...]:
+def roads_of(legs: Legs, units: Units, way: RouteLegs) -> tuple[str, ...]:
     """The roads of a way in their order, without its gate."""
     roads = [road_of(units, cell) for cell in legs.cells(way)[1:]]
     return tuple(road for place, road in enumerate(roads) if not place or road != roads[place - 1])
@@ -70,13 +67,8 @@ def rows_of(choices: Sequence[Choice], times: Sequence[Numbers], departures: Dep
 
 def ways_text(rows: Sequence[WayRow]) -> str:
     """The text of the file."""
-    text = io.StringIO()
-    writer = csv.writer(text, lineterminator="\n")
-    writer.writerow(COLUMNS)
-    for row in rows:
-        writer.writerow([row.source, row.into, row.start, row.way, f"{row.vehicles:.6f}", f"{row.minutes:.4f}",
-                         THEN.join(row.roads)])
-    return text.getvalue()
+    return rows_text([COLUMNS, *([row.source, row.into, row.start, row.way, f"{row.vehicles:.6f}", f"{row.minutes:.4f}", THEN.join(row.roads)]
+                                 for row in rows)])
 
 
 def read_ways(path: Path) -> list[WayRow]:
@@ -90,13 +82,14 @@ def rows_in(content: bytes, path: Path) -> list[WayRow]:
     try:
         if tuple(next(reader, ())) != COLUMNS:
             raise Problem(f"{path}: expected the columns {','.join(COLUMNS)}; `ctm-tools assign` writes such a file")
-        return [_row(*row) for row in reader if row]
+        return [_row(map(unguarded, row)) for row in reader if row]
     except (IndexError, TypeError, ValueError, csv.Error):
         raise Problem(f"{path}: line {reader.line_num} isn't one that `ctm-tools assign` writes") from None
 
 
-def _row(source: str, into: str, start: str, way: str, vehicles: str, minutes: str, roads: str) -> WayRow:
+def _row(fields: Iterable[str]) -> WayRow:
     """The row of a line's fields, or a ValueError."""
+    source, into, start, way, vehicles, minutes, roads = fields
     row = WayRow(source, into, start, int(way), float(vehicles), float(minutes), tuple(roads.split(THEN)) if roads else ())
     if not (0 <= row.vehicles < MOST and 0 <= row.minutes < MOST and row.seconds >= 0):
         raise ValueError(row)
@@ -111,7 +104,7 @@ def ways_path(report: Path) -> Path:
 def ways_of_report(report: Report) -> list[WayRow] | None:
     """The ways that stand beside a report, where they are of the assignment that ended in its network."""
     path, units = ways_path(Path(report.name)), report.units
-    if units.ways_checksum is None or units.ways_network != units.network_checksum or not path.exists():
+    if units.ways.checksum is None or units.ways.network != units.network.checksum or not path.exists():
         return None
     content = read_bytes(path)
-    return rows_in(content, path) if checksum(content) == units.ways_checksum else None
+    return rows_in(content, path) if checksum(content) == units.ways.checksum else None

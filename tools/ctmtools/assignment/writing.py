@@ -2,19 +2,20 @@
 
 from __future__ import annotations
 
-from collections.abc import Sequence
 from dataclasses import dataclass
 from pathlib import Path
 from typing import Any
 
-from ..files import guard_folder, guard_network, guard_report, write, write_units
+from ..files.writing import guard_folder, write
+from ..files.written_over import guard_output
+from ..network_file.checksums import checksum
 from ..plans.searching import moved_to
 from ..problem import Problem
 from ..report.reading import Report
-from ..running import opened, placed, run_into
+from ..runs.outputs import guard_network, guard_report, write_units
+from ..runs.running import opened, placed, run_into
 from ..study.writing import study_text
-from ..checksums import checksum
-from ..units import units_path
+from ..units import OfWays, units_path
 from .assigned_study import AssignedStudy
 from .assigning import Assignment, Round
 from .ways_file import WayRow, ways_path, ways_text
@@ -41,20 +42,17 @@ class Places:
         """The pictures of the gap and of the ways."""
         return self.study.with_suffix(".gap.png"), self.study.with_suffix(".ways.png")
 
-    def guard(self, source: Path, earlier: Path | None, named: bool) -> None:
-        """Refuses to write over the study that is assigned or the earlier one, or over what these tools haven't made.
-
-        A report that is named may be any.
-        """
+    def guard(self, source: Path, earlier: Path | None) -> None:
+        """Refuses to write over the study that is assigned or the earlier one, or over what these tools haven't made."""
         if self.study.suffix != ".toml":
             raise Problem(f"{self.study}: a study's name ends with .toml")
         guard_folder(self.study)
         for study, what in ((source, "is the study that is assigned"), (earlier, "is the assignment whose ways the drivers have")):
             if study is not None and self.study.resolve() == study.resolve():
                 raise Problem(f"{self.study}: {what}; name another file with -o")
+        guard_output(self.study)
         guard_network(self.report.with_suffix(".csv"))
-        if not named:
-            guard_report(self.report)
+        guard_report(self.report)
 
 
 def places_of(source: str | Path, output: str | Path | None = None) -> Places:
@@ -98,15 +96,5 @@ def _mark_ways(report: Report, places: Places, text: str, width: int) -> None:
     """Writes the ways of a report, and in its units that they are its own."""
     write(places.ways, text)
     units = report.units
-    units.ways_checksum, units.ways_network, units.ways_interval = checksum(text.encode()), units.network_checksum, width
+    units.ways = OfWays(checksum(text.encode()), units.network.checksum, width)
     write_units(units_path(places.report), units)
-
-
-def drawn(rounds: Sequence[Round], rows: Sequence[WayRow], report: Report, width: float, places: Places) -> None:
-    """Draws the gap of each round, and who sets out on the ways over time; an interval of choice is so many steps."""
-    from ..plots.assignment import draw_gap, draw_ways
-    from ..plots.figure import save
-
-    gap, ways = places.pictures
-    save(draw_gap(rounds, report.title), gap)
-    save(draw_ways(rows, report, width), ways)

@@ -9,12 +9,13 @@ from pathlib import Path
 import numpy
 import pandas
 
+from ..arrays import Numbers
+from ..detectors.file_set import paths_of
 from ..detectors.formats import BEGINS_WITH_TIME
 from ..detectors.names import TIMES, plain
+from ..detectors.options import Wanted
 from ..detectors.reading import read
-from ..detectors.file_set import paths_of
-from ..detectors.table import Source, named, source_of
-from ..detectors.selection import Wanted
+from ..detectors.table import Source, counted, source_of
 from ..problem import Problem
 from ..report.queues import SLOW
 
@@ -92,7 +93,7 @@ def _of_detectors(paths: Sequence[Path], lanes: float | None, wanted: Wanted, le
     found = read(paths, replace(wanted, lanes=lanes))
     rows = found.rows
     if rows.station.nunique() > 1:
-        raise Problem(f"{found.files.name}: has several stations, {named([str(name) for name in rows.station.unique()])}; choose one by "
+        raise Problem(f"{found.files.name}: has {counted(list(rows.station.unique()))}; choose one by "
                       "--station")
     count = lanes or rows.lanes.fillna(1)
     flow, density = rows.flow / count, rows.density / count
@@ -119,9 +120,10 @@ def fit(states: pandas.DataFrame) -> Triangle:
         raise Problem(f"{int(queued.sum())} rows are of queued traffic, too few for a wave speed and a jam density")
     jam = max(float(density.max()) * 1.2, 2 * top)
 
-    def misses(terms: numpy.ndarray) -> numpy.ndarray:
+    def misses(terms: Numbers) -> Numbers:
         free, wave, most = terms
-        return (numpy.minimum(free * density, wave * (most - density)) - flow) / capacity
+        missed: Numbers = (numpy.minimum(free * density, wave * (most - density)) - flow) / capacity
+        return missed
 
     start = numpy.clip([speed, capacity / (jam - top), jam], [2, 2, jam], [240, 90, jam])
     bounds = [1, 1, density.max()], [250, 100, 400 + density.max()]

@@ -12,13 +12,14 @@ from typing import Any
 import numpy
 import pandas
 
-from ..kept_rows import KeptRows
+from ..many_runs.kept_rows import KeptValues
+from ..many_runs.results import Results
+from ..many_runs.task import Task, fingerprint, ran
+from ..many_runs.task import study as study_of
+from ..many_runs.workers import Done, apart, done
 from ..problem import Problem
-from ..program import program_path
-from ..running import run, settled_by_runs
-from ..study.reading import read_values
-from ..sweeps.task import Task, fingerprint, study
-from ..sweeps.workers import Done, beside, cluster, here
+from ..program.calls import program_path
+from ..study.study import StudySource, study_from
 from .nearest import SIDES, Reach, around, descend, starts, width_of
 from .observed import Observed, modelled
 
@@ -83,19 +84,13 @@ class Trial:
 
 
 def tried(trial: Trial) -> dict[str, Any]:
-    """What the run of a trial has where detectors stand, and why it failed, an empty text where it didn't."""
-    try:
-        task = trial.task
-        built = settled_by_runs(study(task), 1, task.program).built
-        report = run(built.text.encode(), "the built network", built.units, None, 1, task.program)[1]
-        return {"model": modelled(report, trial.observed), "error": ""}
-    except Problem as problem:
-        return {"model": None, "error": str(problem)}
+    """What the run of a trial has where detectors stand."""
+    return {"model": modelled(ran(study_of(trial.task), trial.task).report, trial.observed)}
 
 
-@dataclass
-class Fitted:
-    """The values that come nearest, how far they and those of the study are, and what the model has with them.
+@dataclass(eq=False, kw_only=True)
+class Fitted(Results):
+    """The values that were tried, the nearest first, how far they and those of the study are, and what the model has with them.
 
     `as_well` has for each key the least and the greatest value that does as well while the other keys stay.
     """
@@ -115,18 +110,20 @@ class Calibration:
     each other are made on `jobs` processes, or on the Dask cluster at an address.
     """
 
-    def __init__(self, path: str | Path, observed: Observed, ranges: Sequence[Range], jobs: int = 1, dask: str | None = None,
-                 folder: Path | None = None, news: News | None = None) -> None:
+    news: News | None = None
+
+    def __init__(self, study: StudySource, observed: Observed, ranges: Sequence[Range], jobs: int = 1, dask: str | None = None,
+                 folder: Path | None = None) -> None:
         if not ranges:
             raise Problem("--vary: name a key of the study to vary")
-        self.path, self.observed, self.ranges, self.values = str(path), observed, ranges, read_values(path)
-        self.jobs, self.dask, self.news, self.program = jobs, dask, news, str(program_path())
+        made = study_from(study)
+        self.path, self.observed, self.ranges, self.values = str(made.path), observed, ranges, made.values
+        self.jobs, self.dask, self.program = jobs, dask, str(program_path())
         self.models: dict[Point, pandas.DataFrame] = {}
         self.runs = 0
         mark = fingerprint(Task(self.values, self.path, {"observed": observed.rows.to_csv(), "keys": [one.key for one in ranges]}, ""))
-        self.kept = None if folder is None else KeptRows(folder / FILE, mark, COLUMNS)
-        self.off = {} if self.kept is None else {tuple(map(float, point.split())): float(off)
-                                                 for point, off in self.kept.values.items()}
+        self.kept = KeptValues(None if folder is None else folder / FILE, mark, COLUMNS)
+        self.off = {tuple(map(float, point.split())): float(off) for point, off in self.kept.values.items()}
         self.earlier = len(self.off)
 
     def point_of(self, parts: Sequence[float]) -> Point:
@@ -151,7 +148,7 @@ class Calibration:
     def model(self, point: Point) -> pandas.DataFrame:
         """What the run of a point has where detectors stand."""
         if point not in self.models:
-            found = tried(self._trial(point))
+            found = apart(tried, self._trial(point))
             if found["error"]:
                 raise Problem(found["error"])
             self.models[point] = found["model"]
@@ -175,16 +172,13 @@ class Calibration:
     def _put(self, point: Point, model: pandas.DataFrame) -> None:
         self.runs += 1
         self.models[point], self.off[point] = model, distance(model, self.observed)
-        if self.kept:
-            self.kept.put(" ".join(map(repr, point)), repr(self.off[point]))
+        self.kept.put(" ".join(map(repr, point)), repr(self.off[point]))
         if self.news and point:
             self.news(self.runs, self.named(self.best), self.off[self.best])
 
     def _done(self, trials: Sequence[Trial]) -> Done:
-        """Does the trials on the cluster, on processes or here."""
-        if self.dask and len(trials) > 1:
-            return cluster(trials, self.dask, tried)
-        return beside(trials, min(self.jobs, len(trials)), tried) if self.jobs > 1 and len(trials) > 1 else here(trials, tried)
+        """Does the trials on the cluster, on processes or here; a single one is done here."""
+        return done(trials, tried, self.jobs, self.dask if len(trials) > 1 else None)
 
     def search(self, most: int, first: int, count: int) -> Point:
         """The nearest point after at most so many runs, of which `first` are those of a grid, in `count` searches."""
@@ -211,28 +205,24 @@ class Calibration:
         return {one.key: (min(ends[2 * i], best[i]), max(ends[2 * i + 1], best[i])) for i, one in enumerate(self.ranges)}
 
 
-def calibrate(path: str | Path, observed: Observed, ranges: Sequence[Range], most: int = 80, news: News | None = None,
-              first: int = 16, jobs: int = 1, dask: str | None = None, searches: int = 3, folder: Path | None = None) -> Fitted:
-    """The values within the ranges by which the study comes nearest, after at most so many runs, and those that do as well.
-
-    The runs begin with a grid of `first` points, and so many searches go down from the nearest of them that lie apart. What
-    does as well takes up to a dozen more for each key.
-    """
-    return fitted(Calibration(path, observed, ranges, jobs, dask, folder, news), most, first, searches)
-
-
 def most_runs(most: int, keys: int) -> int:
     """The runs of a calibration of so many keys, at most, whose search has so many."""
     return 1 + most + 2 * HALVINGS * keys
 
 
 def fitted(calibration: Calibration, most: int = 80, first: int = 16, searches: int = 3) -> Fitted:
-    """What a calibration finds, as `calibrate` has it."""
+    """The values by which the study comes nearest, after at most so many runs, and those that do as well.
+
+    The runs begin with a grid of `first` points, and so many searches go down from the nearest of them that lie apart. What
+    does as well takes up to a dozen more for each key.
+    """
     calibration.search(most, first, searches)
     as_well = calibration.as_well(calibration.best)
     best = calibration.best
-    return Fitted(calibration.named(best), calibration.off[best], calibration.off[()], calibration.model(best),
-                  calibration.runs, as_well)
+    off = sorted((point for point in calibration.off if point), key=lambda point: calibration.off[point])
+    rows = pandas.DataFrame([{**calibration.named(point), "distance": calibration.off[point]} for point in off])
+    return Fitted(rows, tuple(one.key for one in calibration.ranges), values=calibration.named(best), distance=calibration.off[best],
+                  before=calibration.off[()], modelled=calibration.model(best), runs=calibration.runs, as_well=as_well)
 
 
 def by_place(model: pandas.DataFrame, observed: Observed) -> pandas.DataFrame:

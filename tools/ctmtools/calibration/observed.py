@@ -9,19 +9,19 @@ from pathlib import Path
 import numpy
 import pandas
 
+from ..detectors.file_set import paths_of
 from ..detectors.formats import needed
 from ..detectors.names import plain
 from ..detectors.numbers import by_text, numbers
+from ..detectors.options import Wanted
 from ..detectors.reading import read
-from ..detectors.file_set import paths_of
-from ..detectors.table import Source, named, source_of
-from ..detectors.selection import Wanted
+from ..detectors.table import Source, counted, named_days, source_of
 from ..problem import Problem
+from ..report.measures import measured
 from ..report.reading import Report
 from ..report.travel import cell_before
-from ..study.plan import Study
-from ..study.quantities import clock
-from ..units import DAY
+from ..study.plan import Scenario
+from ..texts.quantities import DAY, clock
 
 NEEDED = ("place", "start", "end", "flow")
 Names = str | Path | Iterable[str | Path]
@@ -41,7 +41,7 @@ class Observed:
         return list(dict.fromkeys(self.rows.place))
 
 
-def read_observed(names: Names, wanted: Wanted = Wanted(), places: Mapping[str, str] | None = None, study: Study | None = None) -> Observed:
+def read_observed(names: Names, wanted: Wanted = Wanted(), places: Mapping[str, str] | None = None, study: Scenario | None = None) -> Observed:
     """What detectors saw: a file with the columns place (`ROAD.KM`), start, end, flow, and speed where it is known, or files in
     another format.
 
@@ -85,17 +85,17 @@ def _own(source: Source, decimal: str | None) -> Observed:
     return Observed(source.path, rows.reset_index(drop=True))
 
 
-def _of_stations(paths: Sequence[Path], wanted: Wanted, places: Mapping[str, str], study: Study) -> Observed:
+def _of_stations(paths: Sequence[Path], wanted: Wanted, places: Mapping[str, str], study: Scenario) -> Observed:
     """The rows of stations that stand in the study, within its time, of one day or the mean or median of several."""
     found = read(paths, wanted)
     if found.files.dated and study.start + study.duration > DAY:
         raise Problem(f"{found.files.name}: the study passes midnight; for that a file with the columns {', '.join(NEEDED)} is read")
     if wanted.average is None and found.rows.day.nunique() > 1:
-        raise Problem(f"{found.files.name}: has several days, {named(list(map(str, found.rows.day.unique())))}; choose one by --dates, or "
+        raise Problem(f"{found.files.name}: has several days, {named_days(list(map(str, found.rows.day.unique())))}; choose one by --dates, or "
                       "say --average mean or median")
     unknown = next((name for name in places if name not in found.files.stations), None)
     if unknown is not None:
-        raise Problem(f"{found.files.name}: has no station {unknown}, it has {named(found.files.stations)}")
+        raise Problem(f"{found.files.name}: has no station {unknown}, it has {counted(found.files.stations)}")
     rows = found.rows.astype({"station": str})
     rows = rows[rows.station.isin(list(places))] if places else rows
     begin = rows.second + numpy.where(rows.second < float(study.start), DAY, 0)
@@ -112,13 +112,13 @@ def _of_stations(paths: Sequence[Path], wanted: Wanted, places: Mapping[str, str
 def modelled(report: Report, observed: Observed) -> pandas.DataFrame:
     """The flow and the speed that a report has where and when detectors saw theirs, row by row of the observations.
 
-    The flow is what leaves the cell that ends at the place, and the speed the mean in it.
+    They are those of the cell that ends at the place, by Edie's definitions.
     """
     report.need_records()
     units = report.units
     if units.step is None:
         raise Problem(f"{report.name}: the units aren't known, so it can't be compared with detectors")
-    found = []
+    found, lengths = [], report.lengths
     for row in observed.rows.itertuples():
         try:
             cell = cell_before(report, row.place)
@@ -126,11 +126,9 @@ def modelled(report: Report, observed: Observed) -> pandas.DataFrame:
             raise Problem(f"{observed.path}: {row.place} is no place of the study; it is ROAD.KM") from None
         begin, end = ((time - (units.start or 0) + (DAY if time < (units.start or 0) else 0)) / units.step
                       for time in (row.start, row.end))
-        inside = (report.times[:-1] >= begin - 0.5) & (report.times[:-1] < end - 0.5)
-        if not inside.any():
+        first, last = numpy.searchsorted(report.times[:-1], (begin - 0.5, end - 0.5))
+        if first == last:
             raise Problem(f"{observed.path}: {row.place} has a row that isn't within the study's time")
-        flow, held = report.flow[cell].to_numpy()[inside], report.held[cell].to_numpy()[inside]
-        length = (units.length(cell) or 0.0) * 3600 / units.step
-        speed = length * flow.sum() / held.sum() if held.sum() > 0 else float("nan")
-        found.append((flow.mean() * 3600 / units.step, speed))
+        seen = measured(report, report.times[[first, last]], [cell], lengths[[report.place(cell)]])
+        found.append((seen.flow[0, 0], seen.speed[0, 0]))
     return pandas.DataFrame(found, columns=["flow", "speed"], index=observed.rows.index)

@@ -1,0 +1,2 @@
+# Imports all
+"""The commands, a file each: words in, lines out."""

@@ -12,23 +12,28 @@ import pandas
 
 from ..assignment.assigning import Assignment, Round
 from ..assignment.diversion import ways_of_study
-from ..assignment.task import MEASURES, AssignTask, begun, measure_assigned, measures, step_of
 from ..assignment.messages import not_settled, pair_lines, rounded_lines, settled_lines
-from ..assignment.writing import drawn, places_of, written
-from ..files import guard_folder, write
-from ..network_file.network import read_bytes
+from ..assignment.task import MEASURES, AssignTask, begun, measure_assigned, measures, step_of
+from ..assignment.writing import places_of, written
+from ..files.reading import read_bytes
+from ..files.writing import guard_folder, write
+from ..files.written_over import FORCED
+from ..many_runs.workers import done
+from ..plots.assignment import drawn
 from ..problem import Problem
-from ..program import program_path
+from ..program.calls import program_path
+from ..report.held_branches import held_lines
 from ..report.summary import number_text
-from ..running import processors
-from ..study.quantities import exact
-from ..study.reading import read_values, study_of
 from ..study.messages import built_lines as told_of_study
+from ..study.reading import read_values, scenario_of
 from ..study.trips import part_of_drivers
-from ..sweeps.workers import beside, cluster, here
-from ..progress import bar
-from ..text_table import table
-from .finite import Finite
+from ..texts.cells import frame_text
+from ..texts.quantities import exact
+from ..texts.text_table import table
+from .options import ALLOW_FILES, Finite
+from .output import FORCE
+from .progress import bar
+from .telling import tell
 
 COLUMNS = ("informed", *MEASURES, "error")  # of the table of several shares
 
@@ -47,6 +52,7 @@ The traffic is the program's: one run a round. tools/docs/routes.md has the meth
 
 @click.command(epilog=EPILOG)
 @click.argument("source", metavar="STUDY.toml", type=click.Path())
+@ALLOW_FILES
 @click.option("--from", "earlier", metavar="OPEN.assigned.toml", type=click.Path(),
               help="An earlier assignment, whose ways the drivers have.")
 @click.option("--informed", metavar="PART[,PART..]", help="The part of the drivers who choose; else the study's.")
@@ -54,6 +60,7 @@ The traffic is the program's: one run a round. tools/docs/routes.md has the meth
 @click.option("--gap", default=0.01, show_default=True, type=Finite(0, min_open=True),
               help="The relative gap below which it ends.")
 @click.option("--iterations", default=50, show_default=True, type=click.IntRange(1, 10_000), help="The most rounds.")
+@FORCE
 @click.option("-o", "--output", metavar="FILE.toml", type=click.Path(), help="Where the study goes; the rest beside it.")
 @click.option("--workers", metavar="N", type=click.IntRange(1, 16), help="Threads of a run; else as many as processors.")
 @click.option("-j", "--jobs", metavar="N", type=click.IntRange(1, 256), help="Of several shares, how many side by side.")
@@ -62,7 +69,7 @@ def command(source: str, earlier: str | None, informed: str | None, after: str |
             output: str | None, workers: int | None, jobs: int | None, address: str | None) -> None:
     """Let the trips of a study choose their ways, until hardly anybody would gain by another one."""
     values = read_values(source)
-    study = study_of(values, Path(source))
+    study = scenario_of(values, Path(source))
     if after is not None and earlier is None:
         raise click.UsageError("--after: without --from nobody has a way yet")
     rows = ways_of_study(earlier) if earlier else None
@@ -74,17 +81,19 @@ def command(source: str, earlier: str | None, informed: str | None, after: str |
     if address is not None:
         raise click.UsageError("--dask: a cluster makes several assignments, as for --informed 0,0.3,1; this is one")
     places = places_of(source, output)
-    places.guard(Path(source), Path(earlier) if earlier else None, output is not None)
+    places.guard(Path(source), Path(earlier) if earlier else None)
     assignment = begun(tasks[0], workers)
     for line in told_of_study(assignment.shared.built):
-        click.echo(line)
+        tell(line)
     rounds = _rounds(assignment, gap, iterations)
     made = written(assignment, rounds[-1], values, places)
     drawn(rounds, made.rows, made.report, assignment.departures.width, places)
     _tell(assignment, [*rounds[:-1], made.last], gap, made.rows, made.passing)
     for line in settled_lines(assignment.study, rounds[-1], made.last):
-        click.echo(line)
-    click.echo(f"\n{places.study}, {places.report}, {places.ways}, {', '.join(map(str, places.pictures))}")
+        tell(line)
+    for line in held_lines(made.report):
+        tell(line)
+    tell("", f"{places.study}, {places.report}, {places.ways}, {', '.join(map(str, places.pictures))}")
 
 
 def _parts(text: str | None) -> list[float | None]:
@@ -105,36 +114,33 @@ def _rounds(assignment: Assignment, gap: float, iterations: int) -> list[Round]:
     """Goes from round to round, with a bar on a terminal, and tells what each came to."""
     rounds: list[Round] = []
     with bar(iterations, "rounds at most") as shown:
-        for done in assignment.rounds(gap, iterations):
-            rounds.append(done)
-            shown(1, f"gap {done.gap.relative:.4f}")
+        for each in assignment.rounds(gap, iterations):
+            rounds.append(each)
+            shown(1, f"gap {each.gap.relative:.4f}")
     heads = ("round", "gap", "delay (vehicle-hours)", "changed", "moved between branches")
-    lines = [(f"{done.number}", f"{done.gap.relative:.5f}", number_text(done.delay), f"{done.changed:,.1f}", f"{done.moved:.2%}")
-             for done in rounds]
-    click.echo("\n" + "\n".join(table([heads, *lines], right=range(5))))
+    lines = [(f"{each.number}", f"{each.gap.relative:.5f}", number_text(each.delay), f"{each.changed:,.1f}", f"{each.moved:.2%}")
+             for each in rounds]
+    tell("", *table([heads, *lines], right=range(5)))
     return rounds
 
 
 def _tell(assignment: Assignment, rounds: Sequence[Round], gap: float, ways: Sequence[Any], passing: Sequence[str]) -> None:
     """Tells how it ended: the gap, what rounding did, what passes of those who give way, and the ways of the pairs."""
     found = measures(assignment, rounds[-1])
-    click.echo(f"\nVehicles  {number_text(found['served_vehicles'])} were served, {number_text(found['inside_vehicles'])} are still "
-               "inside")
-    click.echo(f"Time      {number_text(found['travel_vehicle_hours'])} vehicle-hours, {number_text(found['mean_minutes'])} min for each, of "
-               f"which the delay is {number_text(found['delay_vehicle_hours'])} vehicle-hours\n")
+    tell("", f"Vehicles  {number_text(found['left_vehicles'])} left, {number_text(found['inside_vehicles'])} are still "
+         "inside")
+    tell(f"Time      {number_text(found['travel_vehicle_hours'])} vehicle-hours, {number_text(found['mean_minutes'])} min for each, of "
+         f"which the delay is {number_text(found['delay_vehicle_hours'])} vehicle-hours", "")
     for line in [*not_settled(assignment, rounds, gap), *rounded_lines(assignment), *passing]:
-        click.echo(line)
+        tell(line)
     for line in pair_lines(ways):
-        click.echo(line)
+        tell(line)
 
 
 def _done(tasks: Sequence[AssignTask], jobs: int | None, address: str | None) -> Iterator[tuple[int, dict[str, Any]]]:
     """What each task measured, as it comes, with a bar on a terminal."""
-    count = min(jobs or processors(), len(tasks))
-    done = cluster(tasks, address, measure_assigned) if address else here(tasks, measure_assigned) if count == 1 else \
-        beside(tasks, count, measure_assigned)
-    with closing(done), bar(len(tasks), f"{len(tasks)} assignments") as shown:
-        for one in done:
+    with closing(done(tasks, measure_assigned, jobs, address)) as found, bar(len(tasks), f"{len(tasks)} assignments") as shown:
+        for one in found:
             shown()
             yield one
 
@@ -144,8 +150,8 @@ def _guard_table(path: Path) -> None:
     if path.suffix != ".csv":
         raise Problem(f"{path}: the table of several shares is a CSV file, whose name ends with .csv")
     guard_folder(path)
-    if path.exists() and not read_bytes(path).startswith(",".join(COLUMNS).encode() + b"\n"):
-        raise Problem(f"{path}: stands there and isn't a table of several shares; name another file with -o")
+    if path.exists() and not FORCED.get() and not read_bytes(path).startswith(",".join(COLUMNS).encode() + b"\n"):
+        raise Problem(f"{path}: stands there and isn't a table of several shares; name another file with -o, or say --force")
 
 
 def _tell_table(tasks: Sequence[AssignTask], done: Iterator[tuple[int, dict[str, Any]]], output: str | None) -> None:
@@ -153,16 +159,16 @@ def _tell_table(tasks: Sequence[AssignTask], done: Iterator[tuple[int, dict[str,
     if output is not None:
         _guard_table(Path(output))
     found = dict(done)
-    frame = pandas.DataFrame([{"informed": tasks[i].informed, **found[i]} for i in sorted(found)])
+    frame = pandas.DataFrame([{"informed": tasks[i].informed, **found[i]} for i in sorted(found)], columns=COLUMNS)
     lines: list[tuple[str, ...]] = [("informed", "rounds", "gap", "delay (vehicle-hours)", "all time (vehicle-hours)",
-                                     "mean (min)", "served", "inside", "")]
+                                     "mean (min)", "left", "inside", "")]
     for _, row in frame.iterrows():
         figures = [f"{row.rounds:.0f}", f"{row.gap:.5f}", *(number_text(row[name]) for name in MEASURES[2:])] if not row.error else \
             [""] * len(MEASURES)
         lines.append((f"{row.informed:g}", *figures, f"failed: {row.error}" if row.error else ""))
-    click.echo("\n".join(table(lines, right=range(8))))
+    tell(*table(lines, right=range(8)))
     if output is not None:
-        write(output, frame.to_csv(index=False, float_format="%.6f"))
-        click.echo(f"\n{output}")
+        write(output, frame_text(frame, index=False, float_format="%.6f"))
+        tell("", str(output))
     if (frame.error != "").all():
         raise Problem(f"no assignment succeeded; the first: {frame.error.iloc[0]}")

@@ -4,20 +4,24 @@ from __future__ import annotations
 
 from collections.abc import Iterator, Sequence
 from pathlib import Path
+from typing import TYPE_CHECKING
 
 import click
-import pandas
 
-from ..moments.futures import futures_of, reports_of
 from ..moments.moment import read_moment
+from ..report.comparability import mismatches
 from ..report.comparing import side_by_side
 from ..report.summary import number_text
-from ..report.comparability import mismatches
+from ..runs.futures import futures_of, reports_of
+from ..texts.text_table import table
 from ..units import Units
-from ..progress import bar
-from ..text_table import table
 from .compare import signed
-from .finite import Finite
+from .options import ALLOW_FILES, Finite
+from .progress import bar
+from .telling import note, tell
+
+if TYPE_CHECKING:
+    import pandas
 
 EPILOG = """\b
 Example:
@@ -34,6 +38,7 @@ are written, for `ctm-tools compare`."""
 @click.command(epilog=EPILOG)
 @click.argument("saved", metavar="SAVED", type=click.Path())
 @click.argument("sources", metavar="STUDY.toml|NET.csv..", type=click.Path(), nargs=-1, required=True)
+@ALLOW_FILES
 @click.option("-o", "--output", metavar="FOLDER", type=click.Path(), help="Write the reports there.")
 @click.option("-j", "--jobs", metavar="N", type=click.IntRange(1, 256), help="Runs side by side; else as many as processors.")
 @click.option("--value-of-time", metavar="MONEY", type=Finite(0), help="What an hour of delay costs.")
@@ -42,17 +47,16 @@ def command(saved: str, sources: tuple[str, ...], output: str | None, jobs: int 
     moment = read_moment(saved)
     futures = futures_of(moment, saved, sources)
     with bar(len(futures), "futures") as done:
-        reports = reports_of(moment, futures, jobs, Path(output) if output else None, lambda line: click.echo(line, err=True),
-                             done)
+        reports = reports_of(moment, futures, jobs, Path(output) if output else None, note, done)
     (name, first), *others = reports.items()
-    click.echo(f"{saved}: saved at {_when(moment.steps, first.units)}, {len(reports)} futures")
+    tell(f"{saved}: saved at {_when(moment.steps, first.units)}, {len(reports)} futures")
     for other, report in others:
         for line in mismatches(first, report):
-            click.echo(f"warning: A is {name}, B is {other}: {line}")
-    click.echo()
-    click.echo("\n".join(beside_each_other(side_by_side(reports, value_of_time), "future")))
+            tell(f"warning: A is {name}, B is {other}: {line}")
+    tell()
+    tell(*beside_each_other(side_by_side(reports, value_of_time), "future"))
     if output:
-        click.echo(f"\nReports in {output}")
+        tell("", f"Reports in {output}")
 
 
 def _when(steps: Sequence[int], units: Units) -> str:
@@ -62,11 +66,11 @@ def _when(steps: Sequence[int], units: Units) -> str:
 
 def beside_each_other(frame: pandas.DataFrame, what: str) -> Iterator[str]:
     """The lines of a table of reports, a row for each."""
-    heads = [what, "came", "served", "inside", f"delay, {frame.attrs['units']['delay']}", f"against {frame.index[0]}", ""]
+    heads = [what, "entered", "left", "inside", f"delay, {frame.attrs['units']['delay']}", f"against {frame.index[0]}", ""]
     rows = []
     for name, row in frame.iterrows():
         part = f"{row.part:+.1%}" if abs(row.part) >= 0.0005 else ""
-        rows.append([str(name), *map(number_text, (row.came, row.served, row.inside, row.delay)), signed(row.rise), part])
+        rows.append([str(name), *map(number_text, (row.entered, row.left, row.inside, row.delay)), signed(row.rise), part])
         if "cost" in frame:
             rows[-1].append(number_text(row.cost))
     rows[0][5] = ""

@@ -3,18 +3,23 @@
 from __future__ import annotations
 
 from pathlib import Path
-from typing import Any
+from typing import Unpack
 
 import click
 
 from ..calibration.fitting import FILE, Calibration, by_place, fitted, most_runs, range_of
 from ..calibration.observed import read_observed
+from ..detectors.options import StationOptions, wanted_by
+from ..files.written_over import guard_output
 from ..problem import Interrupted, Problem
 from ..report.summary import number_text
-from ..study.reading import read_study
-from ..progress import bar
-from ..text_table import table
-from .detector_options import detector_options, wanted_by
+from ..study.reading import read_scenario
+from ..texts.text_table import table
+from .detector_options import detector_options
+from .options import ALLOW_FILES
+from .output import FORCE, OUTPUT_FILE
+from .progress import bar
+from .telling import tell
 
 EPILOG = """\b
 Examples:
@@ -36,6 +41,7 @@ missing."""
 
 @click.command(epilog=EPILOG)
 @click.argument("study", metavar="STUDY.toml", type=click.Path())
+@ALLOW_FILES
 @click.option("--observed", metavar="FILE.csv", type=click.Path(), required=True, multiple=True,
               help="What detectors saw; may be given again.")
 @click.option("--at", "places", metavar="STATION=ROAD.KM", multiple=True, help="Where a station stands; may be given again.")
@@ -50,9 +56,10 @@ missing."""
 @click.option("-j", "--jobs", default=1, show_default=True, type=click.IntRange(1, 256),
               help="Runs side by side, where none needs another.")
 @click.option("--dask", "address", metavar="ADDRESS", help="The scheduler of a Dask cluster that makes them.")
-@click.option("-o", "--output", metavar="FILE.png|svg|pdf", type=click.Path(), help="Where the plot goes.")
+@FORCE
+@click.option("-o", "--output", metavar="FILE.png|svg|pdf", type=OUTPUT_FILE, help="Where the plot goes.")
 def command(study: str, observed: tuple[str, ...], places: tuple[str, ...], varied: tuple[str, ...], runs: int, first: int,
-            starts: int, jobs: int, address: str | None, output: str | None, **terms: Any) -> None:
+            starts: int, jobs: int, address: str | None, output: str | None, **terms: Unpack[StationOptions]) -> None:
     """Find the values of a study's keys by which it comes nearest to what detectors saw.
 
     Tells the values and how far each can move and do as well, and for each detector GEH and root mean square errors, and plots
@@ -61,17 +68,17 @@ def command(study: str, observed: tuple[str, ...], places: tuple[str, ...], vari
     from ..plots.calibration import against
     from ..plots.figure import ENDINGS, save
 
-    picture = Path(output or Path(study).stem + "-calibration.png")
+    picture = guard_output(output or Path(study).stem + "-calibration.png")
     if picture.suffix.lower() not in ENDINGS:
         raise Problem(f"{picture}: a picture's name ends with {', '.join(ENDINGS)}")
     ranges = [range_of(text) for text in varied]
-    seen = read_observed(observed, wanted_by(**terms), _places(places), read_study(study))
+    seen = read_observed(observed, wanted_by(**terms), _places(places), read_scenario(study))
     if seen.lines:
-        click.echo("\n".join(seen.lines) + "\n")
+        tell(*seen.lines, "")
     folder = Path(Path(study).stem + ".calibrate")
     begun = Calibration(study, seen, ranges, jobs, address, folder)
     if begun.earlier:
-        click.echo(f"{begun.earlier} runs stand in {folder / FILE} already\n")
+        tell(f"{begun.earlier} runs stand in {folder / FILE} already", "")
     try:
         with bar(most_runs(runs, len(ranges)), "runs at most") as done:
             begun.news = lambda count, values, off: done(1, f"distance {off:.4f} with {_values(values)}")
@@ -80,15 +87,15 @@ def command(study: str, observed: tuple[str, ...], places: tuple[str, ...], vari
         raise Interrupted(f"stopped after {begun.runs} runs; the same call goes on with what is missing") from None
     for key, value in found.values.items():
         low, high = found.as_well[key]
-        click.echo(f"{key} = {value:g}" + (f"  # {low:g} to {high:g} do as well" if low < high else ""))
-    click.echo(f"\nDistance {found.distance:.4f}, with the study as it stands {found.before:.4f}; {found.runs} runs\n")
+        tell(f"{key} = {value:g}" + (f"  # {low:g} to {high:g} do as well" if low < high else ""))
+    tell("", f"Distance {found.distance:.4f}, with the study as it stands {found.before:.4f}; {found.runs} runs", "")
     rows = [("detector", "rows", "GEH, mean", "GEH below 5", "RMSE flow, vehicles/h", "RMSE speed, km/h")]
     for place, row in by_place(found.modelled, seen).iterrows():
         rows.append((str(place), f"{row['rows']:.0f}", f"{row.geh:.2f}", f"{row.below_5:.0%}", number_text(row.rmse_flow),
                      number_text(row.rmse_speed) if row.rmse_speed == row.rmse_speed else "-"))
-    click.echo("\n".join(table(rows, right=range(1, 6))))
+    tell(*table(rows, right=range(1, 6)))
     save(against(found.modelled, seen, f"{Path(study).stem}: {_values(found.values)}"), picture)
-    click.echo(f"\n{picture}")
+    tell("", str(picture))
 
 
 def _places(texts: tuple[str, ...]) -> dict[str, str]:

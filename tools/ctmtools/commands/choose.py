@@ -3,20 +3,26 @@
 from __future__ import annotations
 
 from pathlib import Path
+from typing import TYPE_CHECKING
 
 import click
-import pandas
 
-from ..files import write
+from ..files.writing import write
+from ..many_runs.task import study
+from ..many_runs.variations import shown, variation
 from ..plans.choosing import Choice
 from ..problem import Interrupted, one_line
 from ..report.summary import number_text
 from ..study.messages import warned_before_runs
-from ..sweeps.task import study
-from ..sweeps.variations import shown, variation
-from ..progress import bar
-from ..text_table import table
-from .run_options import ROWS, VARIED
+from ..texts.cells import frame_text
+from ..texts.text_table import table
+from .options import ALLOW_FILES, ROWS, VARIED
+from .output import FORCE, OUTPUT_FILE
+from .progress import bar
+from .telling import tell
+
+if TYPE_CHECKING:
+    import pandas
 
 EPILOG = """\b
 Examples:
@@ -34,8 +40,10 @@ missing."""
 
 @click.command(epilog=EPILOG)
 @click.argument("source", metavar="STUDY.toml", type=click.Path())
+@ALLOW_FILES
 @VARIED
-@click.option("-o", "--output", metavar="FILE.csv", type=click.Path(), help="Write all rows there.")
+@FORCE
+@click.option("-o", "--output", metavar="FILE.csv", type=OUTPUT_FILE, help="Write all rows there.")
 @ROWS
 def command(source: str, varied: tuple[str, ...], output: str | None, rows: int) -> None:
     """Have the program choose among all combinations of varied values, and tell them, the least delay first.
@@ -45,10 +53,10 @@ def command(source: str, varied: tuple[str, ...], output: str | None, rows: int)
     choice = Choice(source, [variation(text) for text in varied], Path(Path(source).stem + ".choose"))
     first = next(iter(choice.candidates))
     for line in warned_before_runs(study(choice.tasks[first])):
-        click.echo(line)
+        tell(line)
     count = len(choice.candidates) - choice.earlier
-    if choice.earlier and choice.kept:
-        click.echo(f"{choice.earlier} of {len(choice.candidates)} plans stand in {choice.kept.path} already")
+    if choice.earlier:
+        tell(f"{choice.earlier} of {len(choice.candidates)} plans stand in {choice.kept.path} already")
     try:
         with bar(count, f"{count} plans") as done:
             for judged in choice.run():
@@ -56,13 +64,13 @@ def command(source: str, varied: tuple[str, ...], output: str | None, rows: int)
     except KeyboardInterrupt:
         left = len(choice.candidates) - len(choice.delays)
         raise Interrupted(f"stopped with {left} of {len(choice.candidates)} plans left; the same call goes on with them") from None
-    _tell(choice, choice.frame(), rows)
+    frame = choice.results().rows
+    _tell(choice, frame, rows)
     if output:
-        frame = choice.frame()
         for key in choice.keys:
             frame[key] = frame[key].map(shown)
-        write(output, frame.to_csv(index=False, float_format="%.6f"))
-        click.echo(f"\n{Path(output)}")
+        write(output, frame_text(frame, index=False, float_format="%.6f"))
+        tell("", str(Path(output)))
 
 
 def _tell(choice: Choice, frame: pandas.DataFrame, rows: int) -> None:
@@ -73,8 +81,8 @@ def _tell(choice: Choice, frame: pandas.DataFrame, rows: int) -> None:
         remark = f"failed: {one_line(row.error)}" if row.error else \
             f"rounded: {row.rounded}" if row.rounded not in ("", same) else ""
         lines.append((*(shown(row[key]) for key in choice.keys), "" if row.error else number_text(row.delay_vehicle_hours), remark))
-    click.echo("\n".join(table(lines, right=range(len(choice.keys) + 1))))
+    tell(*table(lines, right=range(len(choice.keys) + 1)))
     if len(frame) > rows:
-        click.echo(f"  and {len(frame) - rows} more rows")
+        tell(f"  and {len(frame) - rows} more rows")
     if same:
-        click.echo(f"  Rounded in each of them: {same}")
+        tell(f"  Rounded in each of them: {same}")

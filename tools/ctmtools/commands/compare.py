@@ -3,21 +3,25 @@
 from __future__ import annotations
 
 from collections.abc import Iterator
+from typing import TYPE_CHECKING
 
 import click
-import pandas
 
 from ..assignment.comparing import pair_changes
-from ..files import write
+from ..files.writing import write
+from ..report.comparability import mismatches, names_of, other_lanes_and_speeds
 from ..report.comparing import compare, part_of, totals, travel
-from ..report.names import names_of
-from ..report.summary import number_text
 from ..report.reading import Report, read_report
-from ..report.comparability import mismatches, other_lanes_and_speeds
-from ..text_table import table
+from ..report.summary import number_text
+from ..texts.cells import frame_text
+from ..texts.text_table import table
 from ..yielding.fixed_greens import lost_at_random
-from .finite import Finite
-from .report_options import on_reports
+from .options import Finite, on_reports
+from .output import FORCE, OUTPUT_FILE
+from .telling import tell
+
+if TYPE_CHECKING:
+    import pandas
 
 EPILOG = """\b
 Examples:
@@ -36,15 +40,16 @@ MOST_ROADS = 6  # so many roads are told with their travel time
 @click.argument("first", metavar="A", type=click.Path())
 @click.argument("second", metavar="B", type=click.Path())
 @click.option("--rows", default=10, show_default=True, type=click.IntRange(0), help="How many cells are told.")
-@click.option("-o", "--output", metavar="FILE.csv", type=click.Path(), help="Write the rows of all cells there.")
-@click.option("--plot", "picture", metavar="FILE.png|svg", type=click.Path(),
+@FORCE
+@click.option("-o", "--output", metavar="FILE.csv", type=OUTPUT_FILE, help="Write the rows of all cells there.")
+@click.option("--plot", "picture", metavar="FILE.png|svg", type=OUTPUT_FILE,
               help="Draw the difference of the densities, B less A, as a time-space diagram.")
 @click.option("--road", metavar="ROAD", help="The road to draw; else the longest route.")
 @click.option("--value-of-time", metavar="MONEY", type=Finite(0), help="What an hour of delay costs.")
 @on_reports
 def command(first: str, second: str, rows: int, output: str | None, picture: str | None, road: str | None,
             value_of_time: float | None, units: str | None, network: str | None) -> None:
-    """Compare two reports: delay, served vehicles and travel times, the greatest changes first.
+    """Compare two reports: delay, vehicles that left and travel times, the greatest changes first.
 
     A cell's delay counts where vehicles waited, so a shorter queue shows at the cells that it no longer reaches.
     """
@@ -52,40 +57,40 @@ def command(first: str, second: str, rows: int, output: str | None, picture: str
     frame, sums = compare(one, two), totals(one, two, value_of_time)
     unit = frame.attrs["units"]["delay"]
     for letter, name, path in zip("AB", names_of((one, two)), (first, second)):
-        click.echo(f"{letter}  {name}" + (f" ({path})" if name != path else ""))
+        tell(f"{letter}  {name}" + (f" ({path})" if name != path else ""))
     for line in mismatches(one, two):
-        click.echo(f"warning: {line}")
+        tell(f"warning: {line}")
     for line in other_lanes_and_speeds(one, two):
-        click.echo(line)
-    click.echo()
+        tell(line)
+    tell()
     lines = [("", "A", "B", "B - A", "")]
     for name, row in sums.iterrows():
         part = part_of(row.rise, row["first"])
         change = f"{part:+.1%}" if abs(part) >= 0.0005 else ""
         of = {"delay": f", {unit}", "cost of the delay": ""}.get(str(name), ", vehicles")
         lines.append((f"{name}{of}", number_text(row["first"]), number_text(row["second"]), signed(row.rise), change))
-    click.echo("\n".join(table(lines, right=(1, 2, 3, 4))))
+    tell(*table(lines, right=(1, 2, 3, 4)))
     for line in [*_at_random(one, two), *_travel(travel(one, two)), *pair_changes(one, two)]:
-        click.echo(line)
-    changed = frame[(frame.delay_rise.abs() >= 0.005) | (frame.gone_rise.abs() >= 0.005)]
+        tell(line)
+    changed = frame[(frame.delay_rise.abs() >= 0.005) | (frame.left_rise.abs() >= 0.005)]
     if changed.empty:
-        click.echo("\nNo cell differs.")
+        tell("", "No cell differs.")
     else:
-        click.echo(f"\nThe greatest changes of delay, {min(rows, len(changed))} of {len(changed)} cells that differ, "
-                   f"in {unit}; gone in vehicles:\n")
-        heads = ("cell", "A", "B", "B - A", "gone A", "gone B", "B - A")
+        tell("", f"The greatest changes of delay, {min(rows, len(changed))} of {len(changed)} cells that differ, "
+             f"in {unit}; vehicles that left:", "")
+        heads = ("cell", "A", "B", "B - A", "left A", "left B", "B - A")
         cells = [(cell, *map(_told, (row.delay_first, row.delay_second)), signed(row.delay_rise),
-                  *map(_told, (row.gone_first, row.gone_second)), signed(row.gone_rise))
+                  *map(_told, (row.left_first, row.left_second)), signed(row.left_rise))
                  for cell, row in changed[:rows].iterrows()]
-        click.echo("\n".join(table([heads, *cells], right=range(1, 7))))
+        tell(*table([heads, *cells], right=range(1, 7)))
     if output:
-        write(output, frame.to_csv(float_format="%.6f"))
+        write(output, frame_text(frame, float_format="%.6f"))
     if picture:
         from ..plots.difference import draw
         from ..plots.figure import save, target
 
         save(draw(one, two, road), target(two, "difference", picture))
-        click.echo(f"\n{picture}")
+        tell("", str(picture))
 
 
 def _at_random(first: Report, second: Report) -> Iterator[str]:
@@ -93,7 +98,7 @@ def _at_random(first: Report, second: Report) -> Iterator[str]:
     one, two = lost_at_random(first), lost_at_random(second)
     if one is None or two is None or not any([*one.values(), *two.values()]):
         return
-    yield "\nLost by coming at random, by the Highway Capacity Manual and no part of the delay, in vehicle-hours:\n"
+    yield from ("", "Lost by coming at random, by the Highway Capacity Manual and no part of the delay, in vehicle-hours:", "")
     rows = [(where, f"{one[where]:,.2f}", f"{two[where]:,.2f}", signed(two[where] - one[where])) for where in one
             if one[where] or two[where]]
     yield from table([("", "A", "B", "B - A"), *rows], right=(1, 2, 3))
@@ -104,8 +109,8 @@ def _travel(frame: pandas.DataFrame) -> Iterator[str]:
     changed = frame[frame.rise.abs() >= 0.005]
     if changed.empty:
         return
-    yield (f"\nMean travel time from end to end in min, {min(MOST_ROADS, len(changed))} of {len(changed)} roads that "
-           "differ:\n")
+    yield from ("", f"Mean travel time from end to end in min, {min(MOST_ROADS, len(changed))} of {len(changed)} roads that "
+                "differ:", "")
     rows = [(road, number_text(row["first"]), number_text(row["second"]), signed(row.rise))
             for road, row in changed[:MOST_ROADS].iterrows()]
     yield from table([("road", "A", "B", "B - A"), *rows], right=(1, 2, 3))

@@ -3,15 +3,12 @@
 from __future__ import annotations
 
 from collections.abc import Callable
-from fractions import Fraction
 from typing import Any, TypeVar
 
 import click
 
 from ..detectors.days import ORDERS
-from ..detectors.rules import RULES, rules_of
-from ..detectors.selection import Wanted
-from ..study.quantities import duration
+from ..detectors.rules import RULES
 
 Command = TypeVar("Command", bound=Callable[..., Any])
 OPTIONS = [
@@ -39,10 +36,3 @@ def detector_options(command: Command) -> Command:
     for option in reversed(OPTIONS):
         command = option(command)
     return command
-
-
-def wanted_by(dates: tuple[str, ...] = (), leave_out: tuple[str, ...] | str = (), holidays: tuple[str, ...] = (),
-              interval: str | float | None = None, **terms: Any) -> Wanted:
-    """What the options ask for."""
-    lasting = None if interval is None else duration(interval if isinstance(interval, str) else Fraction(interval), "--interval")
-    return Wanted(dates=tuple(dates), leave_out=rules_of(leave_out, "--leave-out"), holidays=tuple(holidays), interval=lasting, **terms)

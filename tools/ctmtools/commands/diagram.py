@@ -3,14 +3,18 @@
 from __future__ import annotations
 
 from pathlib import Path
-from typing import Any
+from typing import Unpack
 
 import click
 
 from ..calibration.diagram import fit, read_states
+from ..detectors.options import StationOptions, wanted_by
+from ..files.written_over import guard_output
 from ..problem import Problem
-from .detector_options import detector_options, wanted_by
-from .finite import Finite
+from .detector_options import detector_options
+from .options import Finite
+from .output import FORCE, OUTPUT_FILE
+from .telling import tell
 
 EPILOG = """\b
 Examples:
@@ -29,14 +33,15 @@ study's [lane]."""
 @click.option("--vehicle-length", "length", metavar="METRES", type=Finite(0.1, 100),
               help="Of a vehicle and the detector, by which an occupancy is a density.")
 @detector_options
-@click.option("-o", "--output", metavar="FILE.png|svg|pdf", type=click.Path(), help="Where the plot goes.")
-def command(detectors: tuple[str, ...], lanes: float | None, length: float | None, output: str | None, **terms: Any) -> None:
+@FORCE
+@click.option("-o", "--output", metavar="FILE.png|svg|pdf", type=OUTPUT_FILE, help="Where the plot goes.")
+def command(detectors: tuple[str, ...], lanes: float | None, length: float | None, output: str | None, **terms: Unpack[StationOptions]) -> None:
     """Fit the triangle of flow and density to a detector's data, and plot both."""
     from ..plots.calibration import triangle
     from ..plots.figure import ENDINGS, save
 
     detector = detectors[0]
-    picture = Path(output or Path(detector).stem + "-diagram.png")
+    picture = guard_output(output or Path(detector).stem + "-diagram.png")
     if picture.suffix.lower() not in ENDINGS:
         raise Problem(f"{picture}: a picture's name ends with {', '.join(ENDINGS)}")
     states = read_states(detectors, lanes, wanted_by(**terms), length)
@@ -45,12 +50,11 @@ def command(detectors: tuple[str, ...], lanes: float | None, length: float | Non
     except Problem as problem:
         raise Problem(f"{detector}: {problem}") from None
     if states.attrs["lines"]:
-        click.echo("\n".join(states.attrs["lines"]) + "\n")
-    click.echo(f"free_flow_speed = {found.speed:.4g}  # km/h\nwave_speed = {found.wave:.4g}  # km/h\n"
-               f"jam_density = {found.jam:.4g}  # vehicles/km\nsaturation_flow = {found.capacity:.5g}  # vehicles/h")
-    click.echo(f"\n{found.rows} rows, {found.queued} of them of queued traffic; misses {found.rmse:,.0f} vehicles/h in "
-               "the root mean square")
+        tell(*states.attrs["lines"], "")
+    tell(f"free_flow_speed = {found.speed:.4g}  # km/h", f"wave_speed = {found.wave:.4g}  # km/h",
+         f"jam_density = {found.jam:.4g}  # vehicles/km", f"saturation_flow = {found.capacity:.5g}  # vehicles/h")
+    tell("", f"{found.rows} rows, {found.queued} of them of queued traffic; misses {found.rmse:,.0f} vehicles/h in the root mean square")
     if found.warning:
-        click.echo(found.warning)
+        tell(found.warning)
     save(triangle(states, found, f"{Path(detector).stem}: flow and density"), picture)
-    click.echo(f"\n{picture}")
+    tell("", str(picture))

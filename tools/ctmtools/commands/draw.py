@@ -7,24 +7,26 @@ from pathlib import Path
 
 import click
 
-from ..files import write
+from ..files.writing import write
 from ..problem import Interrupted, Problem
 from ..study.times import Times
-from ..uncertainty.drawn_runs import DrawnRuns
-from ..uncertainty.interval import within
-from ..uncertainty.results import Results, results_of
-from ..uncertainty.results_files import write_results
-from ..uncertainty.task import Asked
+from ..texts.cells import frame_text
+from ..texts.text_table import table
+from ..uncertainty.drawn_runs import DrawnRuns, Wanted
 from ..uncertainty.messages import HEADS, compared_lines, plan_lines, spread_rows
-from ..progress import bar
-from ..text_table import table
-from .run_options import CLUSTER, EVERY, JOBS
+from ..uncertainty.reliability import within
+from ..uncertainty.results import Draws, results_of, write_results
+from ..uncertainty.task import Asked
+from .options import ALLOW_FILES, CLUSTER, EVERY, JOBS
+from .output import FORCE, guard_folder_of
+from .progress import bar
+from .telling import tell
 
 EPILOG = """\b
 Examples:
   ctm-tools draw examples/uncertain.toml --runs 500 --seed 1
   ctm-tools draw examples/uncertain.toml examples/uncertain-shoulder.toml --queue-past m.9 --queue-after 07:20
-  ctm-tools draw study.toml --with uncertain.toml --runs 5000 --until-within 2% --dask tcp://host:8786
+  ctm-tools draw study.toml --with uncertain.toml --runs 5000 --until-within 2% --dask tcp://127.0.0.1:8786
 
 \b
 What is uncertain stands in the study, or by itself in the file of --with:
@@ -41,6 +43,7 @@ The runs are kept in FOLDER/runs.csv as they come; called again, draw makes thos
 
 @click.command(epilog=EPILOG)
 @click.argument("sources", metavar="STUDY.toml [OTHER.toml..]", nargs=-1, required=True, type=click.Path())
+@ALLOW_FILES
 @click.option("--runs", metavar="N", default=100, show_default=True, type=click.IntRange(1, 1_000_000),
               help="Draws of each plan.")
 @click.option("--seed", metavar="S", default=1, show_default=True, type=click.IntRange(0), help="What the draws begin at.")
@@ -56,6 +59,7 @@ The runs are kept in FOLDER/runs.csv as they come; called again, draw makes thos
               help="Stop once the 95 % interval of the mean delay, or of the difference, is +-X vehicle-hours, or X%.")
 @JOBS
 @CLUSTER
+@FORCE
 @click.option("-o", "--output", metavar="FOLDER", type=click.Path(), help="Where the results go; else STUDY.draw here.")
 @EVERY
 def command(sources: tuple[str, ...], runs: int, seed: int, given: str | None, routes: tuple[tuple[str, str], ...],
@@ -66,14 +70,15 @@ def command(sources: tuple[str, ...], runs: int, seed: int, given: str | None, r
     Of several plans each gets the same draws, and the second and those behind it are compared with the first draw by draw.
     """
     folder = Path(output or Path(sources[0]).stem + ".draw")
-    drawn_runs = DrawnRuns(sources, runs, seed, None if given is None else Path(given), Asked(routes, places), every, folder,
-                           within(narrow) if narrow else None)
+    guard_folder_of(folder, "summary.csv")
+    wanted = Wanted(runs, seed, None if given is None else Path(given), Asked(routes, places), every, within(narrow) if narrow else None)
+    drawn_runs = DrawnRuns(sources, wanted, folder)
     ends = {time: float(Times(drawn_runs.plans[0].study).after_start(time, "--queue-after")) for time in times}
     done = runs * len(drawn_runs.plans) - drawn_runs.missing
     if done:
-        click.echo(f"{done} of {runs * len(drawn_runs.plans)} runs stand in {folder / 'runs.csv'} already")
+        tell(f"{done} of {runs * len(drawn_runs.plans)} runs stand in {folder / 'runs.csv'} already")
     for line in drawn_runs.warnings():
-        click.echo(line)
+        tell(line)
     _do(drawn_runs, jobs, address)
     _tell(results_of(drawn_runs, ends), folder, drawn_runs.is_narrow)
 
@@ -91,26 +96,26 @@ def _do(drawn_runs: DrawnRuns, jobs: int | None, address: str | None) -> None:
         raise Interrupted(f"stopped with {drawn_runs.missing} of {asked} runs left; the same call goes on with them") from None
 
 
-def _tell(results: Results, folder: Path, is_narrow: bool) -> None:
+def _tell(results: Draws, folder: Path, is_narrow: bool) -> None:
     """Prints what the draws tell, and writes the tables and the picture."""
     write_results(results, folder)
-    failed = results.draws[results.draws.error != ""]
+    failed = results.rows[results.rows.error != ""]
     if len(failed):
-        click.echo(f"{len(failed)} of {len(results.draws)} runs failed; the same call tries them again; the first, draw "
-                   f"{failed.draw.iloc[0]} of {failed.plan.iloc[0]}: {failed.error.iloc[0]}")
-    if len(failed) == len(results.draws):
+        tell(f"{len(failed)} of {len(results.rows)} runs failed; the same call tries them again; the first, draw "
+             f"{failed.draw.iloc[0]} of {failed.plan.iloc[0]}: {failed.error.iloc[0]}")
+    if len(failed) == len(results.rows):
         raise Problem("no run succeeded")
     for line in _lines(results, is_narrow):
-        click.echo(line)
-    write(folder / "summary.csv", results.summary.to_csv(index=False, float_format="%.9g"))
+        tell(line)
+    write(folder / "summary.csv", frame_text(results.summary, index=False, float_format="%.9g"))
     from ..plots.draws import draw
     from ..plots.figure import save
 
     save(draw(results), folder / "plot.png")
-    click.echo(f"\n{folder / 'draws.csv'}, {folder / 'summary.csv'}, {folder / 'plot.png'}")
+    tell("", f"{folder / 'draws.csv'}, {folder / 'summary.csv'}, {folder / 'plot.png'}")
 
 
-def _lines(results: Results, is_narrow: bool) -> Iterator[str]:
+def _lines(results: Draws, is_narrow: bool) -> Iterator[str]:
     """What the draws tell, as lines."""
     stopped = f", where the interval was narrow enough; {results.asked_for} were asked for" \
         if results.count < results.asked_for else ""

@@ -7,11 +7,14 @@ from pathlib import Path
 
 import click
 
-from ..files import write
+from ..files.writing import write
+from ..files.written_over import guard_output
+from ..imports.importing import seconds
 from ..problem import Problem
 from ..report.reading import read_report
-from .importing import seconds
-from .report_options import on_reports
+from .options import on_reports
+from .output import FORCE, OUTPUT_FILE
+from .telling import tell
 
 EPILOG = """\b
 Examples:
@@ -33,8 +36,9 @@ line for each cell and each such time, with flow, density, speed and delay, and 
 controller shows them one after the other. Coordinates are longitude and latitude where the study says its points' crs; else
 they are local, and the file says so.""")
 @click.argument("report", metavar="REPORT", type=click.Path())
-@click.option("-o", "--output", metavar="FILE.geojson", type=click.Path(), help="Where it goes.")
+@click.option("-o", "--output", metavar="FILE.geojson", type=OUTPUT_FILE, help="Where it goes.")
 @click.option("--every", metavar="TIME", help="The state in each such time, as \"15 min\"; it needs records.")
+@FORCE
 @on_reports
 def geojson(report: str, output: str | None, every: str | None, units: str | None, network: str | None) -> None:
     """Write the cells with their flow, density and delay as GeoJSON, for QGIS."""
@@ -43,7 +47,8 @@ def geojson(report: str, output: str | None, every: str | None, units: str | Non
     target = output or Path(report).stem + ".geojson"
     if Path(target).suffix.lower() not in (".geojson", ".json"):
         raise Problem(f"{target}: its name ends with .geojson or .json")
+    guard_output(target)
     made = collection(read_report(report, units, network), seconds(every, "--every") if every else None)
     write(target, json.dumps(made) + "\n")
     where = made["units"]["coordinates"]
-    click.echo(f"{target}: {len(made['features']):,} lines" + (f"; coordinates are {where}" if "local" in where else ""))
+    tell(f"{target}: {len(made['features']):,} lines" + (f"; coordinates are {where}" if "local" in where else ""))

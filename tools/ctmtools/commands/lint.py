@@ -4,10 +4,11 @@ from __future__ import annotations
 
 import click
 
-from ..file_kinds import read_as
+from ..files.kinds import read_as
 from ..network_file.examining import examine
 from ..network_file.warnings import shortened
 from ..units import read_units, units_path
+from .telling import note, tell
 
 EPILOG = """\b
 Examples:
@@ -27,18 +28,17 @@ def command(network: str, complete: bool, strict: bool) -> int:
 
     Of the fault are told the line of the file, the field, its value, what was expected, and what may be meant.
     """
-    findings = examine(read_as(network, "a network"), network, lambda line: click.echo(line, err=True),
-                       read_units(units_path(network)))
-    click.echo(findings.answer)
+    findings = examine(read_as(network, "a network"), network, note, read_units(units_path(network)))
+    tell(findings.answer)
     if findings.fault:
-        click.echo(f"{network}: {findings.fault}")
+        tell(f"{network}: {findings.fault}")
         if findings.shown:
-            click.echo(findings.shown)
+            tell(findings.shown)
         return 1
     lines = [f"line {warning.line}: {warning.text}" for warning in findings.warnings] if complete \
         else shortened(findings.warnings)
     for line in lines:
-        click.echo(f"{network}: warning: {line}")
+        tell(f"{network}: warning: {line}")
     if not lines:
-        click.echo(f"{network}: no fault and no warning")
+        tell(f"{network}: no fault and no warning")
     return 1 if strict and lines else 0

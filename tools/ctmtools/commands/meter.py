@@ -11,24 +11,28 @@ from typing import Any
 
 import click
 
-from ..files import guard_report, write
-from ..moments.metered_run import MeteredRun, kept_path, metered_run
+from ..files.writing import write
 from ..problem import Interrupted, Problem
 from ..report.by_road import roads_and_gates
 from ..report.comparing import side_by_side
-from ..report.summary import number_text, where
 from ..report.reading import Report
-from ..study.network_text import build
-from ..study.plan import Meter, Study
-from ..study.quantities import duration
-from ..study.reading import read_study
+from ..report.summary import number_text, where
+from ..runs.metered_run import MeteredRun, kept_path, metered_run
+from ..runs.outputs import guard_report
 from ..study.messages import built_lines as told_of
+from ..study.network_text import build
+from ..study.plan import Meter, Scenario
+from ..study.reading import read_scenario
+from ..texts.cells import frame_text
+from ..texts.quantities import duration
+from ..texts.text_table import table
 from ..units import units_path
-from ..progress import bar
-from ..text_table import table
 from .branch import beside_each_other
 from .compare import signed
-from .finite import Finite
+from .options import ALLOW_FILES, Finite
+from .output import FORCE, OUTPUT_FILE
+from .progress import bar
+from .telling import note, tell
 
 EPILOG = """\b
 Examples:
@@ -47,6 +51,7 @@ MOST_PLACES = 6  # so many roads and gates are told with their change of delay
 
 @click.command(epilog=EPILOG)
 @click.argument("source", metavar="STUDY.toml", type=click.Path())
+@ALLOW_FILES
 @click.option("--ramp", metavar="RAMP", help="The metered ramp, where the study has no [[meters]].")
 @click.option("--gain", metavar="K", type=Finite(0, min_open=True),
               help="Vehicles/h for each per cent of occupancy; by default 70.")
@@ -54,9 +59,10 @@ MOST_PLACES = 6  # so many roads and gates are told with their change of delay
 @click.option("--interval", metavar="TIME", help="From one rate to the next; by default 1 min.")
 @click.option("--least", metavar="RATE", type=Finite(0), help="The least rate, vehicles/h; by default 240.")
 @click.option("--most", metavar="RATE", type=Finite(0), help="The greatest; by default what the ramp can pass.")
+@FORCE
 @click.option("-o", "--output", metavar="FILE.report", type=click.Path(), help="Where the report of the metered run goes.")
-@click.option("--rates", metavar="FILE.csv", type=click.Path(), help="Write the rates and occupancies there.")
-@click.option("--plot", "picture", metavar="FILE.png|svg|pdf", type=click.Path(), help="Draw them over time.")
+@click.option("--rates", metavar="FILE.csv", type=OUTPUT_FILE, help="Write the rates and occupancies there.")
+@click.option("--plot", "picture", metavar="FILE.png|svg|pdf", type=OUTPUT_FILE, help="Draw them over time.")
 @click.option("--value-of-time", metavar="MONEY", type=Finite(0), help="What an hour of delay costs.")
 def command(source: str, ramp: str | None, output: str | None, rates: str | None, picture: str | None,
             value_of_time: float | None, **figures: Any) -> None:
@@ -66,40 +72,34 @@ def command(source: str, ramp: str | None, output: str | None, rates: str | None
     what the detector saw. The report is that of the network with all rates in it.
     """
     target = Path(output or Path(source).stem + "-metered.report")
-    if not output:
-        guard_report(target)
-    study = read_study(source)
+    guard_report(target)
+    study = read_scenario(source)
     meters = _meters(study, ramp, figures)
-    study.meters = []
-    built = build(study)
+    built = build(replace(study, meters=[]))
     for line in told_of(built):
-        click.echo(line)
+        tell(line)
     try:
         with ExitStack() as stack:
-            done = metered_run(built, study.path, meters, target, _news,
+            done = metered_run(built, study.path, meters, target, note,
                                lambda count: stack.enter_context(bar(count, "intervals")))
     except KeyboardInterrupt:
         raise Interrupted("stopped; the same call goes on from the last interval" if kept_path(target).exists() else
                           "stopped; nothing is kept yet") from None
-    click.echo()
+    tell()
     for line in _page(done, value_of_time):
-        click.echo(line)
+        tell(line)
     if picture:
         from ..plots.figure import save, target as picture_target
         from ..plots.rates import draw
 
         save(draw(done.report, done.rates, done.gauges), picture_target(done.report, "rates", picture))
-        click.echo(f"\n{picture}")
+        tell("", str(picture))
     if rates:
-        write(rates, done.rates.to_csv(index=False, float_format="%.6g"))
-    click.echo(f"\nReport {target}, units {units_path(target)}, network {target.with_suffix('.csv')}")
+        write(rates, frame_text(done.rates, index=False, float_format="%.6g"))
+    tell("", f"Report {target}, units {units_path(target)}, network {target.with_suffix('.csv')}")
 
 
-def _news(line: str) -> None:
-    click.echo(line, err=True)
-
-
-def _meters(study: Study, ramp: str | None, figures: dict[str, Any]) -> list[Meter]:
+def _meters(study: Scenario, ramp: str | None, figures: dict[str, Any]) -> list[Meter]:
     """The meters of a study, or that of a ramp, with the figures that are said on the command line."""
     if ramp is not None and study.meters:
         raise Problem("--ramp: the study says its [[meters]]; take them away, or leave --ramp")

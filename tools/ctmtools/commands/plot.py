@@ -6,9 +6,11 @@ from typing import Any
 
 import click
 
+from ..files.written_over import guard_output
 from ..report.reading import read_report
-from .finite import Finite
-from .report_options import Command, on_reports
+from .options import Command, Finite, on_reports
+from .output import FORCE, OUTPUT_FILE
+from .telling import tell
 
 EPILOG = """\b
 Examples:
@@ -33,8 +35,8 @@ def command() -> None:
 
 def on_picture(command: Command) -> Command:
     """The argument and the options of each plot."""
-    command = on_reports(command)
-    command = click.option("-o", "--output", metavar="FILE.png|svg|pdf", type=click.Path(),
+    command = FORCE(on_reports(command))
+    command = click.option("-o", "--output", metavar="FILE.png|svg|pdf", type=OUTPUT_FILE,
                            help="Where the picture goes.")(command)
     return click.argument("report", metavar="REPORT", type=click.Path())(command)
 
@@ -45,9 +47,9 @@ def draw(kind: str, report: str, output: str | None, units: str | None, network:
     from ..plots.pictures import picture
 
     read = read_report(report, units, network)
-    path = target(read, kind, output)
+    path = guard_output(target(read, kind, output))
     save(picture(read, kind, **options), path)
-    click.echo(path)
+    tell(str(path))
 
 
 def on_time(command: Command) -> Command:

@@ -6,10 +6,13 @@ from pathlib import Path
 
 import click
 
-from ..files import write
+from ..files.writing import write
+from ..files.written_over import guard_output
 from ..problem import Problem
 from ..report.reading import read_report
-from .report_options import on_reports
+from .options import on_reports
+from .output import FORCE, OUTPUT_FILE
+from .telling import tell
 
 EPILOG = """\b
 Examples:
@@ -30,7 +33,8 @@ known, in km, and Debian's python3-pyproj."""
 
 @click.command(epilog=EPILOG)
 @click.argument("reports", metavar="REPORT..", type=click.Path(), nargs=-1, required=True)
-@click.option("-o", "--output", metavar="FILE.html", type=click.Path(), help="Where the page goes.")
+@FORCE
+@click.option("-o", "--output", metavar="FILE.html", type=OUTPUT_FILE, help="Where the page goes.")
 @click.option("--map-behind", is_flag=True, help="Show a map behind the roads, where the browser has a network.")
 @click.option("--crs", metavar="EPSG:CODE", help="The projected system of the roads' points, where the report doesn't name it.")
 @click.option("--tiles", metavar="URL", help="The server of that map, with {z}, {x} and {y}; by default OpenStreetMap's.")
@@ -43,7 +47,7 @@ def command(reports: tuple[str, ...], output: str | None, map_behind: bool, crs:
     from ..pages.background import STREETS, Background
     from ..pages.html_page import page_of
 
-    target = output or Path(reports[0]).stem + ".html"
+    target = guard_output(output or Path(reports[0]).stem + ".html")
     if Path(target).suffix.lower() not in (".html", ".htm"):
         raise Problem(f"{target}: a page's name ends with .html")
     if (crs or tiles) and not map_behind:
@@ -52,4 +56,4 @@ def command(reports: tuple[str, ...], output: str | None, map_behind: bool, crs:
     text = page_of([read_report(path, units, network) for path in reports], background=background,
                    draws=None if draws is None else Path(draws))
     write(target, text)
-    click.echo(f"{target}: {len(text.encode()):,} bytes")
+    tell(f"{target}: {len(text.encode()):,} bytes")

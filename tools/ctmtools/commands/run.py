@@ -7,18 +7,21 @@ from pathlib import Path
 
 import click
 
-from ..files import guard_report, report_target
 from ..moments.actuated_signals import kept_path as greens_path
 from ..moments.moment import Moment
-from ..moments.stretches import kept_moment, kept_path, run_in_stretches, stretch_of
 from ..problem import Interrupted
-from ..report.summary import page
+from ..report.held_branches import held_lines
 from ..report.reading import Report
-from ..run_time import estimated
-from ..running import Prepared, opened, placed, run_into
+from ..report.summary import page
+from ..runs.outputs import guard_report, report_target
+from ..runs.running import Prepared, estimated, opened, placed, run_into
+from ..runs.stretches import kept_moment, kept_path, run_in_stretches, runner_of, stretch_of
 from ..units import units_path
-from ..progress import bar, lasting
 from ..yielding.messages import green_lines
+from .options import ALLOW_FILES
+from .output import FORCE
+from .progress import bar, lasting
+from .telling import note, tell
 
 EPILOG = """\b
 Examples:
@@ -39,6 +42,8 @@ Such a run isn't recorded, so no queues are told; its report is that of --every 
 
 @click.command(epilog=EPILOG)
 @click.argument("source", metavar="STUDY.toml|NET.csv", type=click.Path())
+@ALLOW_FILES
+@FORCE
 @click.option("-o", "--output", metavar="FILE.report", type=click.Path(), help="Where the report goes.")
 @click.option("--every", metavar="E", type=click.IntRange(0, 100_000), help="Record each E-th step; 0 records none.")
 @click.option("--workers", metavar="N", type=click.IntRange(1, 16), help="Threads; by default as many as processors.")
@@ -47,34 +52,31 @@ def command(source: str, output: str | None, every: int | None, workers: int | N
     """Run a study or a network by ctm, write its report with records, and print a page.
 
     Before the page stands what `build` tells of the study, or the warnings of `lint` of the network. The page has the
-    vehicles served, the delay, for each queue where it began, how far it reached and when, and when it
+    vehicles that left, the delay, for each queue where it began, how far it reached and when, and when it
     cleared, and what is still inside at the end. Below it stands what vehicles lose at the fixed greens of a study by
     coming at random, which is no part of the delay. `report`, `table` and `compare` tell it too.
     """
     target = report_target(source, output)
     if checkpoint is not None and every:
         raise click.UsageError("--checkpoint: such a run isn't recorded, so it goes without --every")
-    if not output:
-        guard_report(target)
+    guard_report(target)
     prepared = _opened(source, greens_path(target))
     stretch, begun = 0, None
     if checkpoint is not None:
         stretch = stretch_of(checkpoint, prepared.units)
         begun = kept_moment(kept_path(target), prepared.network, prepared.units)
     prepared = placed(prepared, target)
-    for line in prepared.told:
-        click.echo(line)
-    if prepared.told:
-        click.echo()
+    if told := prepared.told:
+        tell(*told, "")
     if not stretch:
         with lasting("ctm is running", lambda: estimated(prepared, every, workers)):
-            report = run_into(target, prepared, every, workers, _news)
+            report = run_into(target, prepared, every, workers, note)
     else:
         report = _in_stretches(target, prepared, stretch, begun, workers)
     greens_path(target).unlink(missing_ok=True)
-    for line in [*page(report), *green_lines(report)]:
-        click.echo(line)
-    click.echo(f"\nReport {target}{_recorded(report)}, units {units_path(target)}, network {prepared.path}")
+    for line in [*page(report), *green_lines(report), *held_lines(report)]:
+        tell(line)
+    tell("", f"Report {target}{_recorded(report)}, units {units_path(target)}, network {prepared.path}")
 
 
 def _opened(source: str, kept: Path) -> Prepared:
@@ -94,7 +96,7 @@ def _in_stretches(target: Path, prepared: Prepared, stretch: int, begun: Moment 
     clock, path = prepared.units.clock, kept_path(target)
     reached = begun.last if begun else 0
     if begun:
-        click.echo(f"Goes on from {clock(begun.last)}, which stands in {path}\n")
+        tell(f"Goes on from {clock(begun.last)}, which stands in {path}", "")
 
     shown = range(stretch, prepared.network.steps, stretch)
     try:
@@ -106,16 +108,12 @@ def _in_stretches(target: Path, prepared: Prepared, stretch: int, begun: Moment 
                 reached = step
                 done(1, f"at {clock(step)}")
 
-            report = run_in_stretches(target, prepared, stretch, begun, workers, _news, keep)
+            report = run_in_stretches(target, prepared, stretch, begun, runner_of(prepared, workers, note), keep)
             done()
             return report
     except KeyboardInterrupt:
         kept = f"the same call goes on from {clock(reached)}" if reached else "nothing is kept yet"
         raise Interrupted(f"stopped; {kept}") from None
-
-
-def _news(line: str) -> None:
-    click.echo(line, err=True)
 
 
 def _recorded(report: Report) -> str:

@@ -4,24 +4,30 @@ from __future__ import annotations
 
 from collections.abc import Sequence
 from pathlib import Path
+from typing import TYPE_CHECKING
 
 import click
-import pandas
 
-from ..files import write
+from ..files.writing import write
+from ..many_runs.variations import Variation, shown, variation
 from ..problem import Interrupted, Problem
 from ..report.summary import kilometre, number_text
 from ..sweeps.sweeping import Sweep
-from ..sweeps.variations import Variation, shown, variation
-from ..progress import bar
-from ..text_table import table
-from .run_options import CLUSTER, EVERY, JOBS, ROWS, VARIED
+from ..texts.cells import frame_text
+from ..texts.text_table import table
+from .options import ALLOW_FILES, CLUSTER, EVERY, JOBS, ROWS, VARIED
+from .output import FORCE, guard_folder_of
+from .progress import bar
+from .telling import tell
+
+if TYPE_CHECKING:
+    import pandas
 
 EPILOG = """\b
 Examples:
   ctm-tools sweep examples/arterial-0.toml --vary signals.offset=0:110:10
   ctm-tools sweep examples/bottleneck.toml --vary demand=0.8:1.2:0.1 --vary roads.m.lanes=3,4
-  ctm-tools sweep study.toml --vary demand=0.8:1.2:0.1 --vary "signals.offset=0:60:10" --dask tcp://host:8786
+  ctm-tools sweep study.toml --vary demand=0.8:1.2:0.1 --vary "signals.offset=0:60:10" --dask tcp://127.0.0.1:8786
 
 A key is one of the study, such as step, lane.wave_speed, roads.m.length, signals.offset (of all signals) or
 signals.2.offset (of the second). demand multiplies all demands, demand.GATE those of a gate. Values are
@@ -35,9 +41,11 @@ path that it has here."""
 
 @click.command(epilog=EPILOG)
 @click.argument("source", metavar="STUDY.toml", type=click.Path())
+@ALLOW_FILES
 @VARIED
 @JOBS
 @CLUSTER
+@FORCE
 @click.option("-o", "--output", metavar="FOLDER", type=click.Path(),
               help="Where the results go; else STUDY.sweep here.")
 @click.option("--over", metavar="KEY", multiple=True,
@@ -48,18 +56,19 @@ def command(source: str, varied: tuple[str, ...], jobs: int | None, address: str
             over: tuple[str, ...], every: int | None, rows: int) -> None:
     """Build and run a study with every combination of varied values, and tell them, the least delay first.
 
-    Each row has the total delay, the longest queue, the vehicles served and the mean travel time along the longest route
+    Each row has the total delay, the longest queue, the vehicles that left and the mean travel time along the longest route
     from a gate; a run that failed says why.
     """
     variations = [variation(text) for text in varied]
     drawn = _drawn(over, variations)
     folder = Path(output or Path(source).stem + ".sweep")
+    guard_folder_of(folder, "table.csv", "plot.png")
     sweep = Sweep(source, variations, every, folder)
     done = len(sweep.tasks) - len(sweep.missing)
     if done:
-        click.echo(f"{done} of {len(sweep.tasks)} runs stand in {sweep.results.path} already")
+        tell(f"{done} of {len(sweep.tasks)} runs stand in {sweep.rows.path} already")
     for line in sweep.warnings():
-        click.echo(line)
+        tell(line)
     _do(sweep, jobs, address)
     _tell(sweep, rows, folder, drawn)
 
@@ -93,33 +102,33 @@ def _do(sweep: Sweep, jobs: int | None, address: str | None) -> None:
 
 def _tell(sweep: Sweep, rows: int, folder: Path, drawn: Sequence[str]) -> None:
     """Prints the best rows, and writes the table and the plot."""
-    frame, keys = sweep.results.frame(), sweep.keys
+    frame, keys = sweep.rows.frame(), sweep.keys
     same = frame.rounded.iloc[0] if len(frame) > 1 and frame.rounded.nunique() == 1 else ""
-    lines = [(*keys, "delay (vehicle-hours)", "longest queue (km)", "most waiting", "served", "inside",
+    lines = [(*keys, "delay (vehicle-hours)", "longest queue (km)", "most waiting", "left", "inside",
               "travel time (min)", "")]
     for _, row in frame.head(rows).iterrows():
         figures = ("",) * 6 if row.error else (number_text(row.delay_vehicle_hours), kilometre(row.longest_queue_km),
-                                               f"{row.most_waiting_vehicles:,.0f}", number_text(row.served_vehicles),
+                                               f"{row.most_waiting_vehicles:,.0f}", number_text(row.left_vehicles),
                                                number_text(row.inside_vehicles), _minutes(row.travel_time_min))
         lines.append((*(shown(row[key]) for key in keys), *figures, _remark(row, same)))
-    click.echo("\n".join(table(lines, right=range(len(keys) + 6))))
+    tell(*table(lines, right=range(len(keys) + 6)))
     if len(frame) > rows:
-        click.echo(f"  and {len(frame) - rows} more rows")
+        tell(f"  and {len(frame) - rows} more rows")
     if same:
-        click.echo(f"  Rounded in each of them: {same}")
+        tell(f"  Rounded in each of them: {same}")
     path = folder / "table.csv"
-    write(path, frame.drop(columns="fingerprint").to_csv(index=False, float_format="%.6f"))
+    write(path, frame_text(frame.drop(columns="fingerprint"), index=False, float_format="%.6f"))
     picture = folder / "plot.png"
     failures = int((frame.error != "").sum())
     if failures:
-        click.echo(f"{failures} of {len(frame)} runs failed; the same call tries them again")
+        tell(f"{failures} of {len(frame)} runs failed; the same call tries them again")
     if failures == len(frame):
         raise Problem(f"no run of the sweep succeeded; the first: {frame.error.iloc[0]}")
     from ..plots.figure import save
     from ..plots.sweep import draw
 
     save(draw(frame, drawn, sweep.title), picture)
-    click.echo(f"\n{path}, {picture}")
+    tell("", f"{path}, {picture}")
 
 
 def _minutes(value: float) -> str:

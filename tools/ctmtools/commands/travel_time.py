@@ -2,17 +2,24 @@
 
 from __future__ import annotations
 
-import click
-import pandas
+from typing import TYPE_CHECKING
 
-from ..files import write
+import click
+
+from ..files.writing import write
 from ..problem import Problem
-from ..report.summary import number_text, where
 from ..report.reading import Report, read_report
+from ..report.summary import number_text, where
 from ..report.travel import chain_of, travel_times
-from ..study.quantities import duration
-from ..text_table import table
-from .report_options import on_reports
+from ..texts.cells import frame_text
+from ..texts.quantities import duration
+from ..texts.text_table import table
+from .options import on_reports
+from .output import FORCE, OUTPUT_FILE
+from .telling import tell
+
+if TYPE_CHECKING:
+    import pandas
 
 EPILOG = """\b
 Examples:
@@ -22,7 +29,7 @@ Examples:
 
 A place is ROAD.KM, the nearest boundary of cells; or a gate, with the wait in it, or an exit. The way between two
 places is that of the fewest cells. In a row are those who set out in its time: how many, and the mean, the least and
-the most time that they need. Columns of the CSV: entered, vehicles, mean, least, most, free, delay (min), speed (km/h),
+the most time that they need. Columns of the CSV: time, entered (vehicles), mean, least, most, free, delay (min), speed (km/h),
 step; where the units aren't known, places are cells and times are steps."""
 
 
@@ -32,8 +39,9 @@ step; where the units aren't known, places are cells and times are steps."""
 @click.option("--from", "begin", metavar="PLACE", help="Where the route begins.")
 @click.option("--to", "end", metavar="PLACE", help="Where it ends.")
 @click.option("--every", metavar="TIME", help="A row for each such time, as \"15 min\"; else one for all.")
-@click.option("-o", "--output", metavar="FILE.csv", type=click.Path(), help="Write the rows there.")
-@click.option("--plot", "picture", metavar="FILE.png|svg|pdf", type=click.Path(),
+@FORCE
+@click.option("-o", "--output", metavar="FILE.csv", type=OUTPUT_FILE, help="Write the rows there.")
+@click.option("--plot", "picture", metavar="FILE.png|svg|pdf", type=OUTPUT_FILE,
               help="Draw the travel time of each who sets out, over time.")
 @on_reports
 def command(report: str, road: str | None, begin: str | None, end: str | None, every: str | None, output: str | None,
@@ -47,15 +55,15 @@ def command(report: str, road: str | None, begin: str | None, end: str | None, e
     cells = chain_of(read, begin, end, road)
     frame = travel_times(read, cells, _seconds(read, every))
     for line in told_times(read, cells, frame):
-        click.echo(line)
+        tell(line)
     if output:
-        write(output, frame.to_csv(index=False, float_format="%.6g"))
+        write(output, frame_text(frame, index=False, float_format="%.6g"))
     if picture:
         from ..plots.figure import save, target
         from ..plots.travel import draw
 
         save(draw(read, begin, end, road), target(read, "travel-time", picture))
-        click.echo(f"\n{picture}")
+        tell("", str(picture))
 
 
 def _seconds(report: Report, every: str | None) -> float | None:
@@ -82,7 +90,7 @@ def told_times(report: Report, cells: list[str], frame: pandas.DataFrame) -> lis
     rows: list[tuple[str, ...]] = [("set out from", "vehicles", f"mean, {unit}", "least", "most", "km/h")]
     for row in frame.itertuples():
         clock = report.units.clock(row.step) if report.units.known else f"{row.step:g}"
-        rows.append((clock, number_text(row.vehicles), *map(_figure, (row.mean, row.least, row.most, row.speed))))
+        rows.append((clock, number_text(row.entered), *map(_figure, (row.mean, row.least, row.most, row.speed))))
     return [f"{head}, {_free(report, cells, frame)}", "", *table(rows, right=range(1, 6))] + _late(frame)
 
 

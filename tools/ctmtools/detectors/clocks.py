@@ -1,4 +1,4 @@
-"""When the rows of a file are of: their days as the file writes them, and their seconds after midnight."""
+"""When the rows of a file are of: times and days as the file writes them, and their seconds after midnight."""
 
 from __future__ import annotations
 
@@ -11,12 +11,89 @@ from typing import TypeGuard
 import numpy
 import pandas
 
+from ..arrays import Flags, Wholes
 from ..problem import Problem
 from .formats import Format
 from .numbers import by_text
+from .options import Wanted
 from .table import Source
-from .selection import Wanted
-from .written_times import Day, Moment, day, day_text, moment
+
+DATE = r"(?P<date>[0-9]{1,4}[-/.][0-9]{1,2}[-/.][0-9]{1,4})"
+CLOCK = r"(?P<hour>[0-9]{1,2}):(?P<minute>[0-5][0-9])(?::(?P<second>[0-5][0-9])(?:[.,]0*)?)?"
+HALF = r"(?P<half>[AaPp]\.?[Mm]\.?)"
+# A date's numbers in the order in which they are written, since which is the month may not be known; or, of a date in
+# another form, its text.
+Day = tuple[int, int, int] | str
+TIME = re.compile(rf"(?:{DATE}(?:[T ]\s*))?{CLOCK}(?:\s*{HALF})?(?:\s*(?P<zone>Z|[+-][0-9]{{2}}:?[0-9]{{2}}))?\s*")
+DAY_ALONE = re.compile(DATE + r"(?:[T ]00:00(?::00)?)?")
+
+
+@dataclass(frozen=True)
+class Moment:
+    """A time of a file: its day where one is written, its seconds after midnight, and its zone where one is written."""
+
+    day: Day | None
+    seconds: int
+    zone: str | None
+
+
+def moment(text: str, key: str) -> Moment:
+    """The moment that a text spells."""
+    found = TIME.fullmatch(text.strip())
+    hour = _hour(found) if found else None
+    if not found or hour is None:
+        raise Problem(f"{key}: expected a time such as 06:30, 6:30 AM, 2019-12-04T06:30 or 04/12/2019 06:30:00")
+    seconds = hour * 3600 + int(found["minute"]) * 60 + int(found["second"] or 0)
+    return Moment(day(found["date"], key) if found["date"] else None, seconds, found["zone"])
+
+
+def _hour(found: re.Match[str]) -> int | None:
+    """The hour, 0 to 24, of a clock time that may be of half a day; None where there is no such hour."""
+    hour = int(found["hour"])
+    if not found["half"]:
+        return hour if hour < 24 or hour == 24 and not int(found["minute"]) + int(found["second"] or 0) else None
+    return hour % 12 + (12 if found["half"][0] in "pP" else 0) if 1 <= hour <= 12 else None
+
+
+def day(text: str, key: str) -> Day:
+    """The day that a text spells."""
+    text = text.strip()
+    if not text:
+        raise Problem(f"{key}: expected a date such as 2019-12-04 or 04/12/2019, found nothing")
+    found = DAY_ALONE.fullmatch(text)
+    if not found:
+        return text
+    one, two, three = map(int, re.split("[-/.]", found["date"]))
+    return one, two, three
+
+
+def day_text(written: Day) -> str:
+    """A day as messages show it."""
+    if isinstance(written, str):
+        return written
+    return "{:04d}-{:02d}-{:02d}".format(*written) if written[0] > 31 else "{:02d}/{:02d}/{:02d}".format(*written)
+
+
+def follows(first: Day, second: Day) -> bool:
+    """Whether a day is the next one after another, read in one of the orders that its numbers may have."""
+    if isinstance(first, str) or isinstance(second, str):
+        return False
+    return any((later - earlier).days == 1 for earlier, later in zip(readings(first), readings(second))
+               if earlier and later)
+
+
+def readings(numbers: tuple[int, int, int]) -> list[datetime.date | None]:
+    """The dates that the numbers are by year, month, day; by day, month, year; and by month, day, year."""
+    one, two, three = numbers
+    year = three if three > 99 else three + 2000
+    return [_date(one, two, three) if one > 31 else None, _date(year, two, one), _date(year, one, two)]
+
+
+def _date(year: int, month: int, number: int) -> datetime.date | None:
+    try:
+        return datetime.date(year, month, number)
+    except ValueError:
+        return None
 
 
 @dataclass(frozen=True)
@@ -27,8 +104,8 @@ class Clocks:
     """
 
     day: pandas.Categorical | None
-    second: numpy.ndarray
-    again: numpy.ndarray
+    second: Wholes
+    again: Flags
     days: dict[str, Day]
     zoned: bool
     pointed: bool  # whether the dates have points between their numbers
@@ -75,7 +152,7 @@ def _pointed(texts: pandas.Series) -> bool:
 
 
 def _days(source: Source, found: Format, rows: pandas.DataFrame,
-          moments: list[Moment | None]) -> tuple[list[Day | None], numpy.ndarray] | None:
+          moments: list[Moment | None]) -> tuple[list[Day | None], Wholes] | None:
     """Days, and which of them each row has: by a column of dates, or by the times; None where the file has no dates."""
     if found.date is not None:
         dates = rows[found.date.number]
@@ -116,7 +193,7 @@ def _local(source: Source, found: Format, times: pandas.Series, moments: list[Mo
         try:
             midnight = datetime.datetime(*one.day, tzinfo=datetime.timezone(ahead))
         except ValueError:
-            raise Problem(f"{source.path}: {found.time.name}: {text} is of no date") from None
+            raise Problem(f"{source.path}: line {times.index[(times == text).to_numpy().argmax()]}, {found.time.name}: is of no date") from None
         shown = (midnight + datetime.timedelta(seconds=one.seconds)).astimezone(zone)
         seconds = shown.hour * 3600 + shown.minute * 60 + shown.second
         local.append(Moment((shown.year, shown.month, shown.day), seconds, None))

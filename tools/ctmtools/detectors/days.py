@@ -6,9 +6,8 @@ import datetime
 from collections.abc import Iterable, Mapping, Sequence
 
 from ..problem import Problem
-from .clocks import zone_of
-from .table import named
-from .written_times import Day, day, day_text, follows, readings
+from .clocks import Day, day, day_text, follows, readings, zone_of
+from .table import named_days
 
 WEEKDAYS = ("monday", "tuesday", "wednesday", "thursday", "friday", "saturday", "sunday")
 SORTS = {"all": range(7), "weekdays": range(5), "weekends": range(5, 7),
@@ -51,7 +50,7 @@ class Days:
             found += self._of_sort(word) if word.casefold() in SORTS else [self.named(word)]
         chosen = [text for text in self.days if text in found]
         if not chosen:
-            raise Problem(f"{self.name}: no day of it is of {', '.join(words)}; it has {named(list(self.days))}")
+            raise Problem(f"{self.name}: no day of it is of {', '.join(words)}; it has {named_days(list(self.days))}")
         return chosen
 
     def _of_sort(self, word: str) -> list[str]:
@@ -69,7 +68,7 @@ class Days:
         read = dates_of([one])
         same = [text for text, date in self.dates.items() if date == read.get(one)]
         if not same:
-            raise Problem(f"{self.name}: has no {text}, it has {named(list(self.days))}; write date as the file does")
+            raise Problem(f"{self.name}: has no {text}, it has {named_days(list(self.days))}; write date as the file does")
         return same[0]
 
     def behind(self, text: str) -> list[str]:
@@ -81,7 +80,7 @@ class Days:
     def _need_dates(self, what: str) -> None:
         unknown = next((text for text in self.days if text not in self.dates), None)
         if unknown:
-            raise Problem(f"{self.name}: {unknown} may be of two months, or is no date, and so it isn't known which days are of "
+            raise Problem(f"{self.name}: {named_days([unknown])} may be of two months, or is no date, and so it isn't known which days are of "
                           f"{what}; write the dates as 2019-12-04, or say date_order")
 
 

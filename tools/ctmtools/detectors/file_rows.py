@@ -9,14 +9,16 @@ from typing import Any
 import numpy
 import pandas
 
+from ..arrays import Numbers
 from ..problem import Problem
-from .clocks import Clocks, clocks_of
+from ..texts.cells import unguarded
+from ..visible import visible
+from .clocks import Clocks, clocks_of, moment
 from .formats import LONG, PEMS, PEMS_FIRST, PEMS_LANE, Column, Format, format_of
-from .names import HOUR, OCCUPANCIES, SECONDS, SHARE, SPEEDS, plain
+from .names import HOURLY, OCCUPANCIES, SECONDS, SHARE, SPEEDS, plain
 from .numbers import by_text, numbers
-from .table import Source, named, source_of
-from .selection import Wanted
-from .written_times import moment
+from .options import Wanted
+from .table import Source, counted, named, source_of
 
 MEASURES = ["amount", "speed", "occupancy", "occupied", "density", "observed", "lanes"]
 
@@ -52,7 +54,7 @@ class Part:
 
     def _per(self, column: Column) -> str:
         unit, asked = column.quantity.unit, self.wanted.per
-        own = None if unit is None else "hour" if plain(unit) in map(plain, HOUR) else "interval"
+        own = None if unit is None else "hour" if plain(unit) in map(plain, HOURLY) else "interval"
         if own and asked and own != asked:
             raise Problem(f"{self.path}: line {self.source.head}: {column.name} is in {unit}, and per = \"{asked}\" is asked")
         if not own and not asked:
@@ -60,7 +62,7 @@ class Part:
                           "name it count or flow (vehicles/h), or say per = \"interval\" or \"hour\"")
         return own or asked or ""
 
-    def numbers(self, taken: numpy.ndarray) -> pandas.DataFrame:
+    def numbers(self, taken: Numbers) -> pandas.DataFrame:
         """The rows that are taken with their numbers: a row for each station and time, with its line."""
         frames = []
         rows = self.rows if taken.all() else self.rows[taken]
@@ -69,7 +71,7 @@ class Part:
             for sort, column in columns.items():
                 values["amount" if sort == "flow" else sort] = self._column(rows[column.number], column)
             if self.format.lanes:
-                values["lanes"] = numpy.sum([(rows[i] != "").to_numpy() for i in self.format.lanes], axis=0)
+                values["lanes"] = numpy.sum([(rows[i] != "").to_numpy() for i in self.format.lanes], axis=0, dtype=float)
             frames.append(pandas.DataFrame(
                 {**values, "second": self.clocks.second[taken], "again": self.clocks.again[taken],
                  "day": "" if self.clocks.day is None else self.clocks.day[taken],
@@ -132,11 +134,10 @@ def part_of(path: str | Path, wanted: Wanted, nothing: str = "has no rows") -> P
     found = format_of(source, wanted)
     if wanted.station is not None and found.sort not in (LONG, PEMS) and None not in found.stations:
         found = _of_column(source, found, wanted.station)
-    beyond = range(len(source.first), int(source.widths.max())) if found.sort != PEMS else []
-    rows = source.rows(found.begin, [*found.columns, *beyond])
+    rows = source.rows(found.begin, found.columns)
+    _check_widths(source, found, rows)
     if rows.empty:
         raise Problem(f"{source.path}: {nothing}")
-    _check_widths(source, found, rows, list(beyond))
     station, kept = _stations(source, found, rows, wanted)
     rows = rows if kept.all() else rows[kept]
     _check_short(source, found, rows)
@@ -153,24 +154,24 @@ def _of_column(source: Source, found: Format, station: str) -> Format:
 
 
 def _stations(source: Source, found: Format, rows: pandas.DataFrame,
-              wanted: Wanted) -> tuple[pandas.Categorical | None, numpy.ndarray]:
+              wanted: Wanted) -> tuple[pandas.Categorical | None, Numbers]:
     """The station of each row, None where no column has it, and which rows are of the wanted one."""
     every = numpy.ones(len(rows), dtype=bool)
     if found.station is None:
         return None, every
     column = rows[found.station.number]
-    texts = [text.strip() for text in column.cat.categories]
+    texts = [unguarded(visible(text.strip())) for text in column.cat.categories]
     names = list(dict.fromkeys(texts[code] for code in pandas.unique(column.cat.codes)))
     codes = numpy.array([names.index(text) if text in names else -1 for text in texts], dtype=int)[column.cat.codes.to_numpy()]
     station = pandas.Categorical.from_codes(codes, categories=names)
     if wanted.station is None:
         return station, every
     if wanted.station not in names:
-        raise Problem(f"{source.path}: has no station {wanted.station}, it has {named(names)}")
+        raise Problem(f"{source.path}: has no station {wanted.station}, it has {counted(names)}")
     return station, codes == names.index(wanted.station)
 
 
-def _check_widths(source: Source, found: Format, rows: pandas.DataFrame, beyond: list[int]) -> None:
+def _check_widths(source: Source, found: Format, rows: pandas.DataFrame) -> None:
     """Refuses a row with a field behind those that the first line names, or in PeMS's format with a part of a lane's fields."""
     lines = rows.index.to_numpy()
     if found.sort == PEMS:
@@ -180,12 +181,9 @@ def _check_widths(source: Source, found: Format, rows: pandas.DataFrame, beyond:
             raise Problem(f"{source.path}: line {line} has {source.widths[line - 1]} fields; {PEMS} has {len(PEMS_FIRST)}, and "
                           f"{PEMS_LANE} for each lane; is the file cut off there?")
         return
-    more = numpy.zeros(len(rows), dtype=bool)
-    for column in beyond:
-        more |= rows[column].map(lambda text: bool(text.strip())).to_numpy(dtype=bool)
-    if more.any():
-        line = lines[more.argmax()]
-        raise Problem(f"{source.path}: line {line} has {source.widths[line - 1]} fields, and line {source.head} has "
+    more = source.first_with_more(found.begin, len(source.first))
+    if more is not None:
+        raise Problem(f"{source.path}: line {more} has {source.widths[more - 1]} fields, and line {source.head} has "
                       f"{len(source.first)}; is a comma of thousands or a decimal comma among them? leave out the first, and "
                       "quote a number with the second")
 

@@ -14,13 +14,13 @@ import numpy
 import pandas
 
 from ..problem import Problem
-from ..units import DAY
+from ..texts.quantities import DAY
+from .clocks import Day, day_text
 from .days import Days
-from .formats import LONG, VEHICLES
 from .file_rows import Part, part_of
-from .table import named
-from .selection import Wanted
-from .written_times import Day, day_text
+from .formats import LONG, VEHICLES
+from .options import Wanted
+from .table import counted
 
 DATE = re.compile(r"(?<!\d)((?:19|20)\d{2})[-_.]?(0[1-9]|1[0-2])[-_.]?(0[1-9]|[12]\d|3[01])(?!\d)")  # in the name of a file
 
@@ -119,7 +119,7 @@ class Files:
     def _station(self, name: str) -> str:
         alike = [one for one in self.stations if one.casefold() == name.casefold()]
         if name not in self.stations and len(alike) != 1:
-            raise Problem(f"{self.name}: has no station {name}, it has {named(self.stations)}")
+            raise Problem(f"{self.name}: has no station {name}, it has {counted(self.stations)}")
         return name if name in self.stations else alike[0]
 
     def _midnight(self, frame: pandas.DataFrame) -> pandas.DataFrame:

@@ -6,12 +6,11 @@ import numpy
 import pandas
 
 from ..problem import Problem
-from ..units import DAY
+from ..texts.quantities import DAY, HOUR
 from .days import comes_again
-from .formats import VEHICLES
 from .file_set import Files
+from .formats import VEHICLES
 
-HOUR = 3600
 DIGITS = 6  # of the decimals of all numbers, so that those of two units are the same
 
 

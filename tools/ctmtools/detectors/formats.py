@@ -8,8 +8,8 @@ from dataclasses import dataclass, field
 
 from ..problem import Problem
 from .names import COUNTS, DATES, ENDS, INTERVAL, STATIONS, TIMES, Quantity, plain, quantity_of, station_and_quantity
+from .options import Wanted
 from .table import Source, named
-from .selection import Wanted
 
 PEMS = "PeMS's Station 5-Minute"
 LONG, WIDE, VEHICLES = "a row a station and time", "a column a station", "a row a vehicle"
@@ -17,6 +17,7 @@ PEMS_FIRST = ("timestamp", "station", "district", "freeway", "direction of trave
               "% observed", "total flow", "avg occupancy", "avg speed")
 PEMS_LANE = 5  # columns of each lane behind these: samples, flow, occupancy, speed, % observed
 PEMS_INTERVAL = 300  # s
+MOST_LANES = 99
 PEMS_TIME = re.compile(r"[0-9]{1,2}/[0-9]{1,2}/[0-9]{4} [0-9]{1,2}:[0-9]{2}(?::[0-9]{2})?")
 BEGINS_WITH_TIME = re.compile(r"[0-9]{1,4}[-/.:][0-9]{1,2}.*")
 
@@ -80,6 +81,11 @@ def _pems(source: Source, begin: int) -> Format:
     if width < len(PEMS_FIRST) or (width - len(PEMS_FIRST)) % PEMS_LANE:
         raise Problem(f"{source.path}: line {source.head} has {width} fields; {PEMS} has {len(PEMS_FIRST)}, {', '.join(PEMS_FIRST)}, and "
                       f"{PEMS_LANE} for each lane")
+
+    widest = int(source.widths.argmax())
+    lanes = (int(source.widths[widest]) - len(PEMS_FIRST)) // PEMS_LANE
+    if lanes > MOST_LANES:
+        raise Problem(f"{source.path}: line {widest + 1} has the fields of {lanes} lanes; a road may have {MOST_LANES}")
 
     def column(name: str, sort: str, unit: str | None = None) -> Column:
         return Column(PEMS_FIRST.index(name), name, Quantity(sort, unit))

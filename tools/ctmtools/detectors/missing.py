@@ -7,8 +7,10 @@ from dataclasses import dataclass
 import numpy
 import pandas
 
+from ..arrays import Wholes
 from ..problem import Problem
-from ..units import DAY, clock_text
+from ..texts.quantities import DAY
+from ..units import clock_text
 from .days import is_skipped
 from .file_set import Files
 
@@ -81,10 +83,10 @@ def _grid(files: Files, frame: pandas.DataFrame, interval: float) -> pandas.Data
         "second": numpy.tile(times, len(stations)) + numpy.repeat(late, len(times))})
 
 
-def _places(frame: pandas.DataFrame) -> numpy.ndarray:
+def _places(frame: pandas.DataFrame) -> Wholes:
     """A number for each station, day and second, the same in frames of the same stations and days."""
     codes = frame.station.cat.codes.to_numpy(dtype=int) * len(frame.day.cat.categories) + frame.day.cat.codes.to_numpy(dtype=int)
-    places: numpy.ndarray = codes * (DAY + 1) + frame.second.to_numpy(dtype=int)
+    places: Wholes = codes * (DAY + 1) + frame.second.to_numpy(dtype=int)
     return places
 
 

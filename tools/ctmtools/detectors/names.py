@@ -5,7 +5,7 @@ from __future__ import annotations
 import re
 from dataclasses import dataclass
 
-from ..study.quantities import MILE
+from ..texts.quantities import MILE
 
 TIMES = ("time", "timestamp", "datetime", "date time", "start", "start time", "begin", "from", "interval start")
 ENDS = ("end", "end time", "until", "to", "interval end")
@@ -21,16 +21,17 @@ QUANTITIES = {"flow": ("flow", "flow rate", "total flow", "volume", "q", "count"
 COUNTS = ("count", "counts", "vehicles")
 
 # What each unit is called, and what one of it is: of a speed in km/h, of an occupancy in %, of occupied time in s.
-HOUR = ("vehicles/h", "veh/h", "vehicles/hour", "veh/hour", "vph")
+HOURLY = ("vehicles/h", "veh/h", "vehicles/hour", "veh/hour", "vph")
 INTERVAL = ("vehicles", "veh", "vehicles/interval", "veh/interval")
 SPEEDS = {"km/h": 1.0, "kmh": 1.0, "kph": 1.0, "mph": float(MILE), "mi/h": float(MILE), "m/s": 3.6}
 SHARE = 100.0  # of a share of 1
 OCCUPANCIES = {"%": 1.0, "percent": 1.0, "pct": 1.0, "share": SHARE, "fraction": SHARE, "0-1": SHARE}
 SECONDS = {"s": 1.0, "sec": 1.0, "seconds": 1.0, "ms": 0.001}
 UNITS: dict[str, tuple[str, ...]] = {
-    "flow": (*HOUR, *INTERVAL), "speed": tuple(SPEEDS), "occupancy": (*OCCUPANCIES, *SECONDS), "occupied": tuple(SECONDS),
+    "flow": (*HOURLY, *INTERVAL), "speed": tuple(SPEEDS), "occupancy": (*OCCUPANCIES, *SECONDS), "occupied": tuple(SECONDS),
     "density": ("vehicles/km", "veh/km"), "observed": ("%",), "lanes": ()}
 SIGNS = re.compile(r"[\s_.:/()\[\]]+")
+MOST = 1_000  # signs of the name of a column
 
 
 @dataclass(frozen=True)
@@ -61,6 +62,8 @@ def quantity_of(name: str) -> Quantity | None:
 
 def station_and_quantity(name: str) -> tuple[str, Quantity | None]:
     """The station that the name of a column begins with, and the quantity behind it, None where it is the station alone."""
+    if len(name) > MOST:
+        return name, None
     for found in re.finditer(r"[\s_.:]+|(?=[(\[])", name):
         quantity = quantity_of(name[found.end():])
         if found.start() and quantity:

@@ -26,16 +26,16 @@ def number(text: str, decimal: str | None, key: str, what: str = "a count") -> F
     found = re.fullmatch(rf"[+-]?(?:[0-9]+(?:{point}[0-9]*)?|{point}[0-9]+)(?:[eE][+-]?[0-9]{{1,3}})?", written)
     thousands = THOUSANDS.fullmatch(written)
     if thousands and decimal is None and found:
-        raise Problem(f"{key}: \"{written}\" may be {float(written):g} or a number of thousands; write it without "
-                      "the point, or say decimal = \".\" in the study")
+        raise Problem(f"{key}: may have decimals, or be a number of thousands; write it without the point, "
+                      "or say decimal = \".\" in the study")
     if not found:
         hint = f"; say decimal = \"{other}\" in the study" if other in written and decimal is None else ""
         sort = {".": "point", ",": "comma"}[thousands[1]] if thousands else ""
         hint = f"; write it without the {sort} of thousands" if thousands else hint
-        raise Problem(f"{key}: expected {what}, found \"{text}\"{hint}")
+        raise Problem(f"{key}: expected {what}{hint}")
     counted = Fraction(written.replace(sign, "."))
     if counted < 0:
-        raise Problem(f"{key}: {what} isn't negative, found \"{text}\"")
+        raise Problem(f"{key}: {what} isn't negative")
     return counted
 
 
@@ -80,7 +80,7 @@ def numbers(column: pandas.Series, decimal: str | None, path: object, name: str,
             return float(text.replace(decimal or ".", "."))
         value = number(text, decimal, key, what)
         if value > MOST:
-            raise Problem(f"{key}: expected {what}, found \"{text}\"")
+            raise Problem(f"{key}: expected {what}")
         return float(value)
 
     values = by_text(column, read, lambda line: f"{path}: line {line}, {name}")

@@ -10,13 +10,14 @@ from pathlib import Path
 import pandas
 
 from ..problem import Problem
+from ..texts.cells import frame_text
 from .days import hours_of, holidays_of
+from .file_set import Files
 from .flows import with_flows
 from .missing import Missing, filled
+from .options import Wanted
 from .rules import Rule, broken
-from .file_set import Files
-from .table import named
-from .selection import Wanted
+from .table import named, named_days
 
 MEASURES = ["flow", "speed", "occupancy", "density"]
 COLUMNS = ["station", "day", "second", *MEASURES, "observed", "lanes", "file", "line"]
@@ -90,7 +91,7 @@ def hour_lines(files: Files, days: Iterable[str]) -> list[str]:
         return []
     for text in days:
         if text not in files.days.dates:
-            raise Problem(f"{files.name}: {text} may be of two months, so its hours in {zone} aren't known; write the dates as 2019-12-04")
+            raise Problem(f"{files.name}: {named_days([text])} may be of two months, so its hours in {zone} aren't known; write the dates as 2019-12-04")
         hours = hours_of(files.days.dates[text], zone)
         if hours != 24:
             lines.append(f"{text} has {hours:g} hours in {zone}")
@@ -122,6 +123,17 @@ def times_of(found: Read) -> pandas.Series:
     """The local time of each row; those without a known date are of 1 January 1900."""
     dates = {text: pandas.Timestamp(found.files.days.dates.get(text, datetime.date(1900, 1, 1))) for text in found.rows.day.unique()}
     return pandas.to_datetime(found.rows.day.astype(object).map(dates)) + pandas.to_timedelta(found.rows.second, unit="s")
+
+
+def text_of(found: Read) -> str:
+    """The rows as CSV, in the format of a row a station and time, whose columns name their units."""
+    rows = found.rows.assign(time=times_of(found).dt.strftime("%Y-%m-%dT%H:%M:%S" if found.files.dated else "%H:%M:%S"))
+    if found.files.wanted.average is not None:
+        rows["time"] = times_of(found).dt.strftime("%H:%M:%S")
+    names = {"station": "station", "time": "time", "flow": "flow (vehicles/h)", "speed": "speed (km/h)", "occupancy": "occupancy (%)",
+             "density": "density (vehicles/km)", "lanes": "lanes", "observed": "observed (%)"}
+    kept = [name for name in names if name not in COLUMNS or rows[name].notna().any()]
+    return frame_text(rows[kept].rename(columns=names), index=False)
 
 
 def _read_line(files: Files, frames: Sequence[pandas.DataFrame], interval: float) -> str:

@@ -1,4 +1,4 @@
-"""A report as GeoJSON, for QGIS and others: a line for each cell, with what it passed and lost, in all or by time."""
+"""A report as GeoJSON, for QGIS and others: a line for each cell, with what left it and its delay, in all or by time."""
 
 from __future__ import annotations
 
@@ -6,11 +6,13 @@ from collections.abc import Iterator, Mapping
 from typing import Any
 
 import numpy
+import pandas
 
 from ..plots.layout import Line, lay_out
 from ..problem import Problem
+from ..report.measures import hour_of, measured
 from ..report.reading import Report
-from ..report.states import DAY_ZERO, KNOWN, UNKNOWN
+from ..report.states import KNOWN, UNKNOWN
 from ..study.coordinates import DEGREES, METRES, moved
 
 Feature = dict[str, Any]
@@ -20,13 +22,14 @@ DEGREE_DECIMALS = 7  # of a degree, by which a place is known to a centimetre
 def features(report: Report, every: float | None = None) -> Iterator[Feature]:
     """The cells as features: at the end of the run, or for each span of `every` s (or steps, where these aren't known).
 
-    A feature has cell, kind, road, from_km, to_km, lanes, and of the whole run the vehicles that went and the delay; of
-    a span the means of density and speed, the flow, the delay, and begin and end as times of 1 January 1900.
+    A feature has cell, kind, road, from_km, to_km, lanes, and of the whole run the vehicles that left and the delay; of
+    a span density, flow and speed, the delay, and begin and end as times of the study's date, else of 1 January 1900.
     """
     lines = _located(report, lay_out(report))
+    spans = None if every is None else _Spans(report, every)
     for cell in report.cells.index:
         shape = {"type": "LineString", "coordinates": lines[cell]}
-        for terms in [_whole(report, cell)] if every is None else _spans(report, cell, every):
+        for terms in [_whole(report, cell)] if spans is None else spans.of(cell):
             yield {"type": "Feature", "geometry": shape, "properties": {**_place(report, cell), **terms}}
 
 
@@ -55,7 +58,7 @@ def _located(report: Report, lines: Mapping[str, Line]) -> dict[str, list[list[f
     scale, decimals = (METRES, 3) if units.points else (1.0, 6)
     places = [(x * scale, y * scale) for line in lines.values() for x, y in line]
     if units.points and units.crs:
-        places, decimals = moved(places, units.crs, DEGREES, "crs"), DEGREE_DECIMALS
+        places, decimals = moved(places, units.crs, DEGREES, f"{report.name}: crs"), DEGREE_DECIMALS
     rest = iter(places)
     return {cell: [[round(value, decimals) for value in next(rest)] for _ in line] for cell, line in lines.items()}
 
@@ -68,37 +71,52 @@ def _place(report: Report, cell: str) -> dict[str, Any]:
 
 def _whole(report: Report, cell: str) -> dict[str, Any]:
     row = report.cells.loc[cell]
-    return {"gone": float(row.gone), "delay": round(float(report.units.hours(row.wait)), 6)}
+    return {"left": float(row.gone), "delay": round(float(report.units.hours(row.wait)), 6)}
 
 
-def _spans(report: Report, cell: str, every: float) -> Iterator[dict[str, Any]]:
-    """The means of a cell over each span of time."""
-    report.need_records()
-    units, step = report.units, report.units.step
+class _Spans:
+    """The measures of cells over each span of time."""
+
+    def __init__(self, report: Report, every: float) -> None:
+        report.need_records()
+        self.report, (self.starts, self.width) = report, _starts(report, every)
+        rows = numpy.searchsorted(report.times, self.starts)
+        bounds = numpy.append(report.times[rows], report.steps)
+        self.found = measured(report, bounds)
+        self.delay = report.units.hours(numpy.add.reduceat(report.waited, rows, axis=0))
+        self.limits = numpy.add.reduceat(report.free_parts * report.lasting, rows, axis=0) / numpy.diff(bounds)[:, None]
+        self.speeds = report.lengths * hour_of(report)
+
+    def of(self, cell: str) -> Iterator[dict[str, Any]]:
+        """What is told of a cell in each span."""
+        report, place = self.report, self.report.place(cell)
+        road = report.need_network().kinds[cell] == "road"
+        for span, begin in enumerate(self.starts):
+            end = min(begin + self.width, report.steps)
+            terms = {"begin": _time(report, begin), "end": _time(report, end), "flow": round(float(self.found.flow[span, place]), 3),
+                     "delay": round(float(self.delay[span, place]), 6)}
+            if road:
+                terms["density"], terms["speed"] = (_rounded(values[span, place]) for values in (self.found.density, self.found.speed))
+            if road and report.need_network().paces:
+                part = self.limits[span, place]
+                terms["speed_limit"] = _rounded(part * self.speeds[place]) if part < 1 else None
+            yield terms
+
+
+def _starts(report: Report, every: float) -> tuple[list[int], int]:
+    """The steps at which spans begin of so many seconds, or steps where these aren't known, and the steps of a span."""
+    step = report.units.step
     wanted = every if step is None else every / step
-    width = max(1, round(wanted))
-    times, held, flow = numpy.asarray(report.times[:-1]), report.held[cell].to_numpy(), report.flow[cell].to_numpy()
-    lasting, length, kind = numpy.diff(report.times), units.length(cell), report.need_network().kinds[cell]
-    waited = report.waited[cell].to_numpy()
-    if wanted < lasting[0]:
+    if wanted < report.times[1] - report.times[0]:
         raise Problem("--every: is less than the way from record to record")
-    hour = 1.0 if step is None else 3600 / step
-    for span in range(-(-report.steps // width)):
-        own = (times >= span * width) & (times < (span + 1) * width)
-        stood, went = (float((part[own] * lasting[own]).sum()) for part in (held, flow))
-        steps = float(lasting[own].sum())
-        if not steps:
-            continue
-        begin, end = span * width, min((span + 1) * width, report.steps)
-        terms = {"begin": _time(report, begin), "end": _time(report, end), "flow": round(went / steps * hour, 3),
-                 "delay": round(float(units.hours(waited[own].sum())), 6)}
-        if kind == "road":
-            terms["density"] = round(stood / steps / (length or 1), 3)
-            terms["speed"] = round(min(1.0, went / stood) * (length * hour if length else 1), 3) if stood > 0 else None
-        if kind == "road" and report.need_network().paces:
-            part = float((report.free_parts[cell].to_numpy()[own] * lasting[own]).sum()) / steps
-            terms["speed_limit"] = round(part * (length * hour if length else 1), 3) if part < 1 else None
-        yield terms
+    width = max(1, round(wanted))
+    starts = numpy.arange(0, report.steps, width)
+    rows = numpy.append(numpy.searchsorted(report.times[:-1], starts), len(report.times) - 1)
+    return starts[numpy.diff(rows) > 0].tolist(), width
+
+
+def _rounded(value: float) -> float | None:
+    return None if numpy.isnan(value) else round(float(value), 3)
 
 
 def _time(report: Report, step: int) -> Any:
@@ -106,4 +124,4 @@ def _time(report: Report, step: int) -> Any:
     if units.step is None:
         return step
     seconds = (units.start or 0) + step * units.step
-    return (DAY_ZERO + numpy.timedelta64(round(seconds * 1000), "ms")).isoformat()
+    return (pandas.Timestamp(units.first_day) + pandas.Timedelta(round(seconds * 1000), "ms")).isoformat()

@@ -2,21 +2,18 @@
 
 from __future__ import annotations
 
-import csv
-import io
-from collections.abc import Iterable, Iterator, Sequence
+from collections.abc import Iterator
 from math import ceil
 
 import networkx
 
 from ..problem import Problem
-from .map_places import Place
+from ..texts.cells import rows_text
+from ..texts.quantities import DAY, HOUR
+from .osm_map import Place
 from .streets import Streets, Trip
 from .study_file import Writer
 from .traffic import EXIT, GATE
-
-HOUR = 3600
-DAY = 24 * HOUR
 
 
 def demand_form(writer: Writer) -> str:
@@ -25,18 +22,18 @@ def demand_form(writer: Writer) -> str:
     if len(hours) > DAY // HOUR:
         raise Problem("--until: with --after it is more than a day, and an hour of the file of demand would be of two days")
     streets = writer.found.streets
-    return _table(("gate", "street", "longitude", "latitude", "time", "vehicles"), (
+    return rows_text([("gate", "street", "longitude", "latitude", "time", "vehicles"), *(
         [writer.names[GATE + name], streets[name].title, *(f"{value:.5f}" for value in streets[name].points[0]),
-         _clock(writer, hour * HOUR, DAY), 0] for name in gates(writer) for hour in hours))
+         _clock(writer, hour * HOUR, DAY), 0] for name in gates(writer) for hour in hours)])
 
 
 def trips_form(writer: Writer, until: float) -> str:
     """A row for each pair of a gate and an exit that a way joins and each hour until a time, with the streets of both."""
     streets = writer.found.streets
-    return _table(("from", "to", "start", "end", "vehicles", "from_street", "to_street"), (
+    return rows_text([("from", "to", "start", "end", "vehicles", "from_street", "to_street"), *(
         [writer.names[GATE + trip.route[0]], writer.names[EXIT + trip.route[-1]], _clock(writer, begin),
          _clock(writer, min(begin + HOUR, until)), 0, streets[trip.route[0]].title, streets[trip.route[-1]].title]
-        for trip in writer.found.trips for begin in range(0, ceil(until), HOUR)))
+        for trip in writer.found.trips for begin in range(0, ceil(until), HOUR))])
 
 
 def open_trips(found: Streets, until: float) -> list[Trip]:
@@ -74,9 +71,3 @@ def _clock(writer: Writer, seconds: float, wraps: int | None = None) -> str:
         hours, rest = text.split(":", 1)
         text = f"{int(hours) % (wraps // HOUR):02d}:{rest}"
     return text.removesuffix(":00")
-
-
-def _table(header: Sequence[str], rows: Iterable[Sequence[object]]) -> str:
-    text = io.StringIO()
-    csv.writer(text, lineterminator="\n").writerows([header, *rows])
-    return text.getvalue()

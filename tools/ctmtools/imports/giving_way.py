@@ -4,15 +4,17 @@ from __future__ import annotations
 
 from collections.abc import Callable, Iterator
 from dataclasses import dataclass
+from fractions import Fraction
+from typing import Any
 
-from ..first_few import first_few
+from ..texts.text_table import first_few
 from .greens import kept_green, overlap
 from .streets import ALL_STOP, LEFT, RIGHT, STOP, THROUGH, ZIPPER, Movement, Streets, grouped
 from .traffic import Traffic
 
 MOST_NAMED = 12  # movements that a note names; the study has all of them at their junctions
 FAST = 80  # km/h; the gaps of a study are those of streets, and no ramp's onto a motorway, which drivers of this speed meet
-RING_OF_TWO = ["critical_gap = 4.328", "follow_up = 2.535"]  # 1,420·exp(-0.00085·v), HCM 2016, chapter 22
+RING_OF_TWO = {"critical_gap": Fraction("4.328"), "follow_up": Fraction("2.535")}  # 1,420·exp(-0.00085·v), HCM 2016, chapter 22
 TWICE = 2  # of a left turn out of the street with priority counts this, HCM 2010, chapter 19
 ALL_STOPS = "at an all-way stop nobody has priority"
 AT_SPEED = f"streams that meet at more than {FAST} km/h don't take gaps as on streets"
@@ -34,18 +36,16 @@ class GivesWay:
     stops: bool
     ring: int
 
-    def terms(self) -> list[str]:
+    def terms(self) -> dict[str, Any]:
         """What an entry of `yields`, or a merge, says of it."""
-        found = [f'kind = "{self.kind}"']
+        found: dict[str, Any] = {"kind": self.kind}
         if self.kind.startswith(("major", "minor")) and self.lanes > 2:
-            found.append(f"priority_lanes = {self.lanes}")
+            found["priority_lanes"] = self.lanes
         if self.kind == "minor-left" and self.legs == 3:
-            found.append("legs = 3")
+            found["legs"] = 3
         if self.kind.startswith("minor") != self.stops:
-            found.append('control = "stop"' if self.stops else 'control = "give_way"')
-        if self.ring > 1:
-            found += RING_OF_TWO
-        return found
+            found["control"] = "stop" if self.stops else "give_way"
+        return found | RING_OF_TWO if self.ring > 1 else found
 
 
 class GivingWay:

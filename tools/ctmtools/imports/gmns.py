@@ -7,13 +7,12 @@ from collections.abc import Mapping
 from math import inf
 from pathlib import Path
 
-from ..first_few import first_few
 from ..problem import Problem
-from ..study.quantities import MILE
+from ..texts.quantities import DAY, MILE
+from ..texts.text_table import first_few
 from .gmns_places import Places
 from .gmns_tables import ZONAL, Row, once, read_table
-from .speed_limits import DAY
-from .streets import ALL_STOP, GIVE_WAY, STOP, Movement, Program, Said, Span, SpeedSpan, Street, Streets, Way, grouped
+from .streets import ALL_STOP, GIVE_WAY, STOP, Connection, Movement, Program, Said, Span, SpeedSpan, Street, Streets, grouped
 from .sumo import always, joined
 from .turning import meet, turn_of
 
@@ -22,7 +21,8 @@ KILOMETRES = {"km": 1.0, "kilometer": 1.0, "kilometers": 1.0, "kilometre": 1.0, 
               "ft": 0.0003048, "foot": 0.0003048, "feet": 0.0003048}
 SPEEDS = {"kph": 1.0, "km/h": 1.0, "kmh": 1.0, "mph": float(MILE), "m/s": 3.6}
 CARS = re.compile(r"(?i)auto|car|all|motor|^\s*$|vehicle")
-CONTROLS = {"": "", "no_control": "", "signal": "", "yield": GIVE_WAY, "stop": STOP, "stop_2_way": STOP, "stop_4_way": ALL_STOP}
+SIGNAL = "signal"
+CONTROLS = {"": "", "no_control": "", SIGNAL: "", "yield": GIVE_WAY, "stop": STOP, "stop_2_way": STOP, "stop_4_way": ALL_STOP}
 # The days of the week from Sunday on, and perhaps holidays; from when to when.
 TIME_DAY = re.compile(r"(?P<days>[01]{7,8})_(?P<h1>\d\d)(?P<m1>\d\d)_(?P<h2>\d\d)(?P<m2>\d\d)")
 USUAL = 50.0  # km/h, of a link that doesn't say its speed
@@ -40,6 +40,7 @@ def read_folder(folder: str | Path, until: float = inf, links: bool = True) -> S
     reader.links()
     reader.movements()
     reader.signals()
+    reader.uncontrolled()
     if links:
         reader.demand()
     reader.by_time()
@@ -62,6 +63,7 @@ class Reader:
         self.yielding: set[Movement] = set()  # movements that give way by their ctrl_type
         self.at: Mapping[str, list[Movement]] = {}  # the movements of each node
         self.unsaid: dict[str, str] = {}  # the control of nodes that don't say who gives way
+        self.signalled: set[str] = set()  # nodes of which a movement has a signal
 
     def links(self) -> None:
         """The links in one direction; one that isn't directed makes two streets."""
@@ -110,7 +112,7 @@ class Reader:
                 continue
             lanes = lanes_between(row.number("start_ib_lane", 1.0), row.number("end_ib_lane", 1.0), has_0)
             control = self._control(row, pair)
-            way = self.found.ways.setdefault(pair, Way(0, 0))  # of several movements by lanes from link to link
+            way = self.found.ways.setdefault(pair, Connection(0, 0))  # of several movements by lanes from link to link
             way.lanes, way.priority = way.lanes + lanes, way.priority + lanes * (1 if control else 4)
             way.turns = turn_of(row.text("type"), self.found.streets[pair[0]], self.found.streets[pair[1]])
             if control:
@@ -127,7 +129,7 @@ class Reader:
             for one in self.found.streets.values():
                 for two in leaving[one.end]:
                     if one.start != two.end:
-                        self.found.ways[one.name, two.name] = Way(min(one.lanes, two.lanes), one.lanes)
+                        self.found.ways[one.name, two.name] = Connection(min(one.lanes, two.lanes), one.lanes)
 
     def _control(self, row: Row, pair: Movement) -> str:
         """How a movement gives way, by itself or by a node at which all stop; empty where it doesn't."""
@@ -136,6 +138,8 @@ class Reader:
             if one.text("ctrl_type").lower() not in CONTROLS:
                 raise Problem(f"{one.key('ctrl_type')}: expected {', '.join(filter(None, CONTROLS))} or nothing, found "
                               f"\"{one.text('ctrl_type')}\"")
+        if SIGNAL in (row.text("ctrl_type").lower(), node.text("ctrl_type").lower()):
+            self.signalled.add(node.text("node_id"))
         own, whole = (CONTROLS[one.text("ctrl_type").lower()] for one in (row, node))
         if not row.text("ctrl_type") and whole in (GIVE_WAY, STOP):
             self.unsaid.setdefault(node.text("node_id"), node.text("ctrl_type"))
@@ -150,9 +154,21 @@ class Reader:
         if without:
             self.found.notes.append(f"{len(without)} movements give way by their ctrl_type, and so do all whom they meet, so none "
                                     f"has priority: {first_few([' to '.join(pair) for pair in without])}")
+
+    def uncontrolled(self) -> None:
+        """Says at which nodes all drive freely though they have a ctrl_type: signals without times, and who gives way unsaid."""
+        if not self.pairs:
+            controls = {name: self.nodes[name].text("ctrl_type") for name in
+                        dict.fromkeys(self.found.streets[one].end for one, _ in self.found.ways)}
+            self.signalled |= {name for name, control in controls.items() if control.lower() == SIGNAL}
+            self.unsaid = {name: control for name, control in controls.items() if CONTROLS.get(control.lower())}
+        untimed = sorted(self.signalled - self.found.programs.keys())
+        if untimed:
+            self.found.notes.append(f"{len(untimed)} nodes have ctrl_type {SIGNAL} and no times of one, so all movements are green at "
+                                    f"all times and the delay is too low: {first_few(untimed)}")
         if self.unsaid:
-            self.found.notes.append(f"{len(self.unsaid)} nodes have a ctrl_type, as {', '.join(self.unsaid.values())}, and no "
-                                    f"movement that says who gives way: {first_few(self.unsaid)}")
+            self.found.notes.append(f"{len(self.unsaid)} nodes have a ctrl_type, as {first_few(dict.fromkeys(self.unsaid.values()))}, and "
+                                    f"no movement that says who gives way: {first_few(self.unsaid)}")
 
     def _check_shares(self, rows: list[Row]) -> None:
         """Refuses a movement without a share whose link has others with one, since by lanes it would be another measure."""

@@ -7,13 +7,15 @@ import math
 from dataclasses import dataclass
 from pathlib import Path
 
-from ..network_file.network import read_bytes
+from ..files.reading import check_fields, read_bytes
 from ..problem import Problem
+from ..texts.text_table import first_few
 
 NEEDED = {"node": ("node_id",), "link": ("link_id", "from_node_id", "to_node_id"),
           "movement": ("mvmt_id", "ib_link_id", "ob_link_id"), "signal_timing_plan": ("timing_plan_id",),
           "demand": ("link_id", "start", "end", "flow")}
 ZONAL = ("o_zone_id", "d_zone_id", "volume")  # of demand between zones, as DTALite has it
+MOST_NAMED = 12  # columns that a message names
 YES, NO = ("1", "true", "t", "yes"), ("0", "false", "f", "no")
 
 
@@ -64,13 +66,16 @@ def read_table(folder: Path, name: str, needed: bool = False) -> list[Row]:
         return []
     try:
         reader = csv.reader(read_bytes(path).decode("utf-8-sig").splitlines())
-        head = [column.strip().lower() for column in next(reader, [])]
-        rows = [(reader.line_num, [field.strip() for field in fields]) for fields in reader]
+        lines = [(reader.line_num, [field.strip() for field in fields]) for fields in reader]
     except (UnicodeDecodeError, csv.Error) as error:
         raise Problem(f"{path}: {error}") from None
+    for line, fields in lines:
+        check_fields(path, line, len(fields))
+    (_, names), *rows = lines or [(1, [])]
+    head = [column.lower() for column in names]
     for column in ZONAL if name == "demand" and ZONAL[0] in head else NEEDED.get(name, ()):
         if column not in head:
-            raise Problem(f"{path}: has no column {column}, it has {', '.join(head)}")
+            raise Problem(f"{path}: has no column {column}, it has {first_few(head, MOST_NAMED)}")
     for line, fields in rows:
         if any(fields[len(head):]):
             raise Problem(f"{path}: line {line} has {len(fields)} fields, and line 1 has {len(head)}")

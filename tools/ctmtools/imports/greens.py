@@ -6,8 +6,8 @@ from collections import Counter
 from collections.abc import Collection, Container, Iterator, Mapping
 from dataclasses import dataclass
 
-from ..first_few import first_few
-from .streets import Movement, Program, Span, Streets, Way, grouped
+from ..texts.text_table import first_few
+from .streets import Connection, Movement, Program, Span, Streets, grouped
 from .traffic import Traffic
 
 SEVERAL = "they control several junctions"
@@ -25,7 +25,7 @@ class Part:
     gives: list[Movement]
 
 
-def kept_green(way: Way, cycle: float) -> Span:
+def kept_green(way: Connection, cycle: float) -> Span:
     """The green of a movement that a study keeps, the longest; without a signal of its own it is green all the time."""
     return max(way.green or [(0.0, cycle)], key=lambda span: span[1] - span[0])
 
@@ -40,7 +40,7 @@ def within(time: float, span: Span, cycle: float) -> bool:
     return (time - span[0]) % cycle < span[1] - span[0]
 
 
-def stages(ways: Mapping[Movement, Way], giving: Container[Movement], cycle: float) -> Iterator[Part]:
+def stages(ways: Mapping[Movement, Connection], giving: Container[Movement], cycle: float) -> Iterator[Part]:
     """The parts of a cycle in which the same movements are green, and which of these give way in it.
 
     Parts in which nobody is green are left out.
@@ -98,7 +98,7 @@ class Following:
                    f"{first_few(names)}")
 
 
-def stages_of(way: Way, program: Program) -> Iterator[int]:
+def stages_of(way: Connection, program: Program) -> Iterator[int]:
     """The numbers of the stages of a signal in which a movement is green."""
     green = kept_green(way, program.cycle)
     return (k for k, stage in enumerate(program.stages) if within(stage.start + stage.lasting / 2, green, program.cycle))

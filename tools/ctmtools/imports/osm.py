@@ -2,22 +2,24 @@
 
 from __future__ import annotations
 
+import os
 import re
+import shutil
+import subprocess
 import tempfile
 from collections.abc import Sequence
 from math import pi, sqrt
 from pathlib import Path
 
-from ..problem import Problem
+from ..imports import osm_map, osm_roads
+from ..problem import Problem, one_line
+from ..program.processes import aside, called, ended
 from ..study.coordinates import DEGREES, moved
-from . import osm_map, osm_roads
-from .map_places import Place, notes_of
 from .osm_ends import Ends, drop_ways_to_nowhere, metres, middle
-from .osm_map import Map, Point, Way, way_of
-from .standard_programs import call
+from .osm_map import Map, Place, Point, Way, notes_of, way_of
 from .streets import Street, Streets, grouped
-from .sumo import read_net, streets_of
-from .sumo_net import Net
+from .sumo import streets_of
+from .sumo_net import Net, read_net
 
 Box = tuple[float, float, float, float]  # west, south, east and north
 PACKED = (".pbf", ".bz2", ".o5m")  # what osmium alone can read
@@ -45,6 +47,10 @@ SAYS = {
     "signal left out": "signals on the map are left out, as at crossings for people on foot",
     "short": "streets are shorter than half a cell, and become one where they are no part of a longer road",
 }
+PACKAGES = {"netconvert": "sumo", "osmium": "osmium-tool"}  # of Debian
+MOST_TOLD = 3  # lines of what a program says of its failure
+SETTINGS = {"PROJ_NETWORK": "OFF", "LC_ALL": "C.UTF-8"}  # nothing is fetched, and what is said is said in English
+OWN_TYPES = "SUMO_HOME"  # where another version of SUMO may have other types of roads; without it they are netconvert's own
 
 
 def box_of(text: str) -> Box:
@@ -246,3 +252,27 @@ def _unsaid(way: Way, own: Sequence[Street], keys: Sequence[str]) -> list[Street
 def _by(way: Way, keys: Sequence[str]) -> str:
     """By what a guess is made of what a way says none of some keys of."""
     return ", of the direction of which the map says none" if osm_roads.says(way, keys) else f" by the class {way.kind}"
+
+
+def call(program: str, words: Sequence[str], source: str) -> str:
+    """What a program says as it works; where it fails, its own words are told of the source, the file that it is about."""
+    path = shutil.which(program)
+    if path is None:
+        raise Problem(f"{program}, which reads {source}, isn't installed: sudo apt-get install {PACKAGES[program]}")
+    around = {name: value for name, value in os.environ.items() if name != OWN_TYPES}
+    with called([path, *words], env={**around, **SETTINGS}, stdin=subprocess.DEVNULL, stdout=subprocess.PIPE,
+                stderr=subprocess.STDOUT) as process:
+        assert process.stdout  # it is a pipe
+        out = aside(process.stdout.read)
+        status = ended(process, out)
+    said = out.result().decode("utf-8", "replace")
+    if status:
+        raise Problem(f"{source}: {program} failed with status {status}: {_cause(said)}")
+    return said
+
+
+def _cause(said: str) -> str:
+    """The lines in which a program says why it failed: from the first that names an error on, else the last ones."""
+    lines = [line.strip() for line in said.splitlines() if line.strip() and not line.startswith("Warning")]
+    first = next((place for place, line in enumerate(lines) if "error" in line.lower()), max(0, len(lines) - MOST_TOLD))
+    return one_line("; ".join(lines[first:first + MOST_TOLD])) or "it doesn't say why"

@@ -9,8 +9,7 @@ from math import cos, hypot, radians
 
 import networkx
 
-from .map_places import Place
-from .osm_map import Point
+from .osm_map import Place, Point
 from .streets import Street, Streets, grouped, reached
 
 EDGE = 50.0  # metres within which an end lies at the edge of the map

@@ -1,21 +1,25 @@
-"""What a map file of OpenStreetMap says, as XML: its nodes, its ways with a class of road, and which turns are forbidden."""
+"""What a map file of OpenStreetMap says, as XML: nodes, ways with a class of road, forbidden turns; and what became of its places."""
 
 from __future__ import annotations
 
 import re
-from collections.abc import Iterable
+from collections.abc import Iterable, Iterator, Sequence
 from dataclasses import dataclass, field
 from pathlib import Path
 from xml.etree import ElementTree
 
 from ..problem import Problem, one_line
+from ..texts.cells import rows_text
+from ..texts.text_table import first_few
 from .streets import Item
-from .sumo_net import Element, check_root, opened
+from .sumo_net import Element, check_root, elements
 
 Point = tuple[float, float]  # longitude and latitude in degrees
 HALF_TURN = 180.0
 SIGNALS = "traffic_signals"
 GONE = {"action": "delete", "visible": "false"}  # of what an editor or the history keeps, and isn't on the map
+HEADER = ("kind", "street", "longitude", "latitude", "what")
+DECIMALS = 5  # of a degree, a metre
 
 
 @dataclass(frozen=True)
@@ -56,16 +60,12 @@ def read(path: str | Path, told: str) -> Map:
     """The map in a file, of which messages say that it is the one that is `told`."""
     check_root(path, "osm")
     found = Map()
-    try:
-        with opened(path) as file:
-            for _, element in ElementTree.iterparse(file, events=("end",)):
-                if element.tag in ("node", "way", "relation", "bounds"):
-                    if not any(element.get(key) == value for key, value in GONE.items()):
-                        _take(found, element, told)
-                    if element.tag != "relation":
-                        element.clear()
-    except (ElementTree.ParseError, EOFError) as error:
-        raise Problem(f"{told}: no XML: {one_line(error)}") from None
+    for element in elements(path, "end", told):
+        if element.tag in ("node", "way", "relation", "bounds"):
+            if not any(element.get(key) == value for key, value in GONE.items()):
+                _take(found, element, told)
+            if element.tag != "relation":
+                element.clear()
     _check(found, told)
     return found
 
@@ -149,3 +149,31 @@ def way_of(street: str, ways: dict[str, Way]) -> Way:
     """The way of a street of netconvert's, which is called -WAY#PART, with the - where it goes against the way."""
     name = re.sub(r"#.*$", "", street)
     return ways[name] if name in ways else ways[name[1:]]
+
+
+@dataclass(frozen=True)
+class Place:
+    """A place of the map: of which kind it is, the street there, its longitude and latitude, and what became of it."""
+
+    kind: str
+    street: str
+    at: Point
+    what: str
+
+    @property
+    def text(self) -> str:
+        """The place as notes name it."""
+        return f"{self.street} at {self.at[0]:.{DECIMALS}f}, {self.at[1]:.{DECIMALS}f}"
+
+
+def notes_of(places: Sequence[Place], says: dict[str, str]) -> Iterator[str]:
+    """A line for each kind that `says` has words for, with how many there are and the first places."""
+    for kind, words in says.items():
+        own = [place for place in places if place.kind == kind]
+        if own:
+            yield f"{len(own)} {words}: {first_few([place.text for place in own])}"
+
+
+def table(places: Sequence[Place]) -> str:
+    """All places as CSV."""
+    return rows_text([HEADER, *([place.kind, place.street, *(f"{value:.{DECIMALS}f}" for value in place.at), place.what] for place in places)])

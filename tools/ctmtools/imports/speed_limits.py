@@ -5,9 +5,8 @@ from __future__ import annotations
 from collections.abc import Iterator, Mapping, Sequence
 from dataclasses import dataclass
 
+from ..texts.quantities import DAY
 from .streets import SpeedSpan, Street
-
-DAY = 86_400  # s
 
 
 @dataclass(frozen=True)

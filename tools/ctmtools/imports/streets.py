@@ -46,7 +46,7 @@ GIVE_WAY, STOP, ALL_STOP, ZIPPER = "give_way", "stop", "all_way_stop", "zipper" 
 
 
 @dataclass
-class Way:
+class Connection:
     """A movement at a node: its lanes, its priority where it meets others, and when in the cycle it is green.
 
     `yields` are the movements to which it has to give way, at a signal those that are green while it is, and `permitted` when in
@@ -137,7 +137,7 @@ class Streets:
 
     title: str
     streets: dict[str, Street] = field(default_factory=dict)
-    ways: dict[Movement, Way] = field(default_factory=dict)
+    ways: dict[Movement, Connection] = field(default_factory=dict)
     programs: dict[str, Program] = field(default_factory=dict)
     trips: list[Trip] = field(default_factory=list)
     notes: list[str] = field(default_factory=list)

@@ -4,25 +4,27 @@ from __future__ import annotations
 
 import re
 from collections.abc import Iterator, Sequence
-from dataclasses import dataclass
+from dataclasses import dataclass, replace
+from fractions import Fraction
 from math import floor
+from typing import Any
 
 import networkx
 
 from ..chains import chains
 from ..study.coordinates import decimals_of
 from ..study.crossings import MOST_ARMS
-from ..study.quantities import clock
-from ..study.rounding import rounded_text
-from ..study.writing import quoted
+from ..study.scale import rounded_text
+from ..study.writing import Noted, Rows, Section, text_of
+from ..texts.quantities import HOUR, clock
+from ..visible import visible
 from .giving_way import GivingWay
 from .greens import Following, kept_green, stages, stages_of
 from .road_names import LONGEST_NAME, apart, heading, short_name
 from .speed_limits import limits_on
-from .streets import Movement, Program, Stage, Street, Streets, Way, grouped
+from .streets import Connection, Movement, Program, Stage, Street, Streets, grouped
 from .traffic import EXIT, GATE, Traffic
 
-HOUR = 3600
 TOO_WIDE = f"with those to whom they do they would be a junction of more than {MOST_ARMS} streets"
 LOCAL_DECIMALS = 5  # of a km
 CHANGED = 0.01  # shares of a span that differ by less are those of the whole time
@@ -81,50 +83,43 @@ class Writer:
 
     def text(self) -> str:
         """The text of the study file."""
-        return "\n".join(self.lines()) + "\n"
+        return text_of(self.values(), self.tables(), f"Made by ctm-tools import of {self.found.title}.")
 
-    def lines(self) -> Iterator[str]:
-        """The lines of the study."""
-        terms, notes = self.terms, self._notes()
-        yield f"# Made by ctm-tools import of {self.found.title}."
-        yield f"title = {quoted(self.found.title)}"
-        yield f"step = {terms.step:g}  # s"
-        yield f"start = {quoted(terms.start)}"
-        yield f"duration = {terms.duration:g}  # s"
+    def values(self) -> dict[str, Any]:
+        """What of the study stands before its tables."""
+        terms, notes = self.terms, self.notes()
+        values = {"title": visible(self.found.title), "step": Noted(rounded(terms.step), "s"), "start": terms.start,
+                  "duration": Noted(rounded(terms.duration), "s")}
         if self.found.crs:
-            yield f"crs = {quoted(self.found.crs)}  # of the roads' points"
+            values["crs"] = Noted(self.found.crs, "of the roads' points")
         if notes:
-            yield "notes = [  # what of the network isn't kept"
-            yield from (f"  {quoted(note)}," for note in notes)
-            yield "]"
-        yield ""
-        yield "[lane]"
-        yield f"wave_speed = {terms.wave:.6g}  # km/h"
-        yield f"jam_density = {1000 / terms.gap:.6g}  # vehicles/km"
-        yield ""
-        for chain in self.chains:
-            yield from self._road(chain)
+            values["notes"] = Rows(notes)
+        return values
+
+    def tables(self) -> Iterator[Section]:
+        """The tables of the study."""
+        terms = self.terms
+        yield Section(("lane",), {"wave_speed": Noted(rounded(terms.wave), "km/h"),
+                                  "jam_density": Noted(rounded(1000 / terms.gap), "vehicles/km")})
+        yield from map(self._road, self.chains)
         yield from self._ends()
         for comes, leaves in self.joints:
             yield from self._node(comes, leaves)
         yield from self._speed_limits()
 
-    def _speed_limits(self) -> Iterator[str]:
+    def _speed_limits(self) -> Iterator[Section]:
         """The speed limits by time of the roads."""
         limits, terms = grouped(self.found.limits, lambda limit: limit.street), self.terms
         for chain in self.chains:
             streets = [self.found.streets[street] for street in chain]
             for limit in limits_on(streets, limits, float(clock(terms.start, "start")), terms.duration, terms.step):
-                yield "[[speed_limits]]"
-                yield f"road = {quoted(self.names[chain[0]])}"
+                values: dict[str, Any] = {"road": self.names[chain[0]]}
                 if limit.start_km:
-                    yield f"from = {limit.start_km:.6g}"
+                    values["from"] = rounded(limit.start_km)
                 if limit.end_km is not None:
-                    yield f"to = {limit.end_km:.6g}"
-                yield f"start = {self._time(limit.begin)}"
-                yield f"end = {self._time(limit.end)}"
-                yield f"speed = {limit.speed:.6g}  # km/h"
-                yield ""
+                    values["to"] = rounded(limit.end_km)
+                values |= {"start": terms.clock(limit.begin), "end": terms.clock(limit.end), "speed": Noted(rounded(limit.speed), "km/h")}
+                yield Section(("speed_limits",), values, in_list=True)
 
     def _joints(self) -> list[tuple[list[str], list[str]]]:
         """What comes and what leaves where movements meet or part, in the order of the network."""
@@ -166,7 +161,7 @@ class Writer:
         """Names roads, their cells, gates and exits: for a chain's first and last street that of its road."""
         taken: set[str] = set()
         for number, chain in enumerate(self.chains, 1):
-            title = self.found.streets[chain[0]].title
+            title = visible(self.found.streets[chain[0]].title)
             if title:
                 road = apart(f"{title} {self._direction(chain)}".rstrip(), taken)
                 name = short_name(title, taken)
@@ -183,33 +178,25 @@ class Writer:
         points = [point for street in chain for point in self.found.streets[street].points]
         return heading(points[0], points[-1], self.found.crs) if points else ""
 
-    def _road(self, chain: Sequence[str]) -> Iterator[str]:
-        streets = [self.found.streets[street] for street in chain]
-        if list(chain) != [self.names[chain[0]]]:
-            yield f"# {', '.join(chain[:8])}{f' and {len(chain) - 8} more' if len(chain) > 8 else ''}"
-        yield f"[roads.{quoted(self.names[chain[0]])}]"
-        if self.cells[chain[0]] != self.names[chain[0]]:
-            yield f"cells = {quoted(self.cells[chain[0]])}"
-        yield f"length = {sum(street.length for street in streets):.6g}  # km"
+    def _road(self, chain: Sequence[str]) -> Section:
+        streets, name = [self.found.streets[street] for street in chain], self.names[chain[0]]
+        values: dict[str, Any] = {} if self.cells[chain[0]] == name else {"cells": self.cells[chain[0]]}
+        values["length"] = Noted(rounded(sum(street.length for street in streets)), "km")
         points = [point for street in streets for point in street.points]
         if len(points) > 1:
-            kept = [point for i, point in enumerate(points) if not i or point != points[i - 1]]
-            yield f"points = [{', '.join(f'[{self._place(x)}, {self._place(y)}]' for x, y in kept)}]"
+            values["points"] = [[self._place(x), self._place(y)] for i, (x, y) in enumerate(points) if not i or (x, y) != points[i - 1]]
         sections = list(self._sections(streets))
         if len(sections) == 1:
-            yield from (f"{key} = {value}" for key, value in self._lane(streets[0]))
+            values |= self._lane(streets[0])
         else:
-            yield "sections = ["
-            for start, street in sections:
-                lane = ", ".join(f"{key} = {value}" for key, value in self._lane(street))
-                yield f"  {{ from = {start:.6g}, {lane} }},"
-            yield "]"
-        yield ""
+            values["sections"] = Rows({"from": rounded(start), **self._lane(street)} for start, street in sections)
+        streets_told = f"{', '.join(chain[:8])}{f' and {len(chain) - 8} more' if len(chain) > 8 else ''}"
+        return Section(("roads", name), values, above="" if list(chain) == [name] else streets_told)
 
-    def _place(self, value: float) -> str:
+    def _place(self, value: float) -> Fraction:
         """A coordinate to a centimetre, in km, metres or degrees."""
         decimals = LOCAL_DECIMALS if self.found.crs is None else decimals_of(self.found.crs)
-        return f"{value:.{decimals}f}".rstrip("0").rstrip(".")
+        return Fraction(f"{value:.{decimals}f}")
 
     @staticmethod
     def _sections(streets: Sequence[Street]) -> Iterator[tuple[float, Street]]:
@@ -222,173 +209,144 @@ class Writer:
             last = terms
             start += street.length
 
-    def _lane(self, street: Street) -> Iterator[tuple[str, str]]:
+    def _lane(self, street: Street) -> dict[str, Any]:
         each = street.capacity / street.lanes if street.capacity else self.terms.saturation(street.speed)
-        yield "lanes", str(street.lanes)
-        yield "free_flow_speed", f"{street.speed:.6g}"
-        yield "saturation_flow", f"{each:.6g}"
+        return {"lanes": street.lanes, "free_flow_speed": rounded(street.speed), "saturation_flow": rounded(each)}
 
-    def _ends(self) -> Iterator[str]:
+    def _ends(self) -> Iterator[Section]:
         """The gates with their demand, and the exits."""
-        hour = 3600 / self.traffic.interval
         for street in self.traffic.streets:
-            if (GATE + street, street) not in self.traffic.moved:
-                continue
-            yield f"[gates.{quoted(self.names[GATE + street])}]"
-            if self.into[street] == [GATE + street]:
-                yield f"into = {quoted(self.names[street])}"
-            else:
-                yield f"capacity = {self._capacity(street):.6g}"
-            if self.terms.counts:
-                yield f"demand = {self._counted(street)}"
-                yield ""
-                continue
-            rows = self.found.gates.get(street, []) if not self.found.trips else [
-                (span * self.traffic.interval, min((span + 1) * self.traffic.interval, self.terms.duration), vehicles *
-                 hour) for span, vehicles in enumerate(self.traffic.demand(street))]
-            yield f"demand = [{', '.join(self._demand(row) for row in rows if row[2] > 0 and row[0] < row[1])}]"
-            yield ""
+            if (GATE + street, street) in self.traffic.moved:
+                is_alone = self.into[street] == [GATE + street]
+                beside: dict[str, Any] = {"into": self.names[street]} if is_alone else {"capacity": self._capacity(street)}
+                yield Section(("gates", self.names[GATE + street]), {**beside, "demand": self._demand(street)})
         for street in self.traffic.streets:
             if (street, EXIT + street) in self.traffic.moved:
-                yield f"[exits.{quoted(self.names[EXIT + street])}]"
-                if self.out_of[street] == [EXIT + street]:
-                    yield f"from = {quoted(self.names[street])}"
-                else:
-                    yield f"capacity = {self._capacity(street):.6g}"
-                yield ""
+                beside = {"from": self.names[street]} if self.out_of[street] == [EXIT + street] else {"capacity": self._capacity(street)}
+                yield Section(("exits", self.names[EXIT + street]), beside)
 
-    def _capacity(self, street: str) -> float:
+    def _capacity(self, street: str) -> Fraction:
         found = self.found.streets[street]
-        return found.capacity or found.lanes * self.terms.saturation(found.speed)
+        return rounded(found.capacity or found.lanes * self.terms.saturation(found.speed))
 
-    def _counted(self, street: str) -> str:
-        """The demand of a gate by its rows in the file of counts."""
-        return (f"{{ counts = {quoted(self.terms.counts or '')}, column = \"vehicles\", station = "
-                f"{quoted(self.names[GATE + street])}, station_column = \"gate\", interval = \"60 min\" }}")
+    def _demand(self, street: str) -> dict[str, str] | list[dict[str, Any]]:
+        """The demand of a gate: by its rows in the file of counts, by those of its network, or by the trips from span to span."""
+        interval, terms = self.traffic.interval, self.terms
+        if terms.counts:
+            return {"counts": terms.counts, "column": "vehicles", "station": self.names[GATE + street], "station_column": "gate",
+                    "interval": "60 min"}
+        rows = self.found.gates.get(street, []) if not self.found.trips else [
+            (span * interval, min((span + 1) * interval, terms.duration), vehicles * HOUR / interval)
+            for span, vehicles in enumerate(self.traffic.demand(street))]
+        return [{"start": terms.clock(begin), "end": terms.clock(end), "flow": rounded(flow)} for begin, end, flow in rows
+                if flow > 0 and begin < end]
 
-    def _demand(self, row: tuple[float, float, float]) -> str:
-        return f"{{ start = {self._time(row[0])}, end = {self._time(row[1])}, flow = {row[2]:.6g} }}"
-
-    def _time(self, seconds: float) -> str:
-        return quoted(self.terms.clock(seconds))
-
-    def _node(self, comes: list[str], leaves: list[str]) -> Iterator[str]:
-        """What joins roads, gates and exits at a node: nothing, a merge, a diverge or a junction."""
-        signal = any(self._signalled(street) for street in comes)
+    def _node(self, comes: list[str], leaves: list[str]) -> Iterator[Section]:
+        """What joins roads, gates and exits at a node: nothing, a merge, a diverge or a junction; who is unopposed stands above it."""
         unopposed = [self._moving(way) for one in comes for way in self.unopposed[one]]
-        if unopposed:
-            yield f"# Give way to others, and don't wait for them here: {', '.join(unopposed)}"
+        above = f"Give way to others, and don't wait for them here: {', '.join(unopposed)}" if unopposed else ""
+        for section in self._joined(comes, leaves):
+            yield replace(section, above=above)
+            above = ""
+
+    def _joined(self, comes: list[str], leaves: list[str]) -> Iterator[Section]:
+        signal = any(self._signalled(street) for street in comes)
+        giving = [one for one in comes if (one, leaves[0]) in self.giving.taken]
         if len(comes) == len(leaves) == 1:
             yield from self._straight(comes[0], leaves[0])
-            return
-        giving = [one for one in comes if (one, leaves[0]) in self.giving.taken]
-        if not signal and len(leaves) == 1 and len(comes) == 2 and len(giving) < 2:
-            yield "[[merges]]"
-            yield f"from = {self._named(comes)}"
-            yield f"into = {quoted(self.names[leaves[0]])}"
-            yield f"priorities = [{', '.join(f'{self._way((one, leaves[0])).priority:g}' for one in comes)}]"
-            for one in giving:
-                yield f"yields_to = {quoted(self.names[next(other for other in comes if other != one)])}"
-                yield from self.giving.taken[one, leaves[0]].terms()
-            yield ""
+        elif not signal and len(leaves) == 1 and len(comes) == 2 and len(giving) < 2:
+            yield self._merge(comes, leaves[0], giving)
         elif not signal and len(comes) == 1 and len(leaves) == 2:
-            yield "[[diverges]]"
-            yield f"from = {quoted(self.names[comes[0]])}"
-            yield f"into = {self._named(leaves)}"
-            yield from self._shares(comes, leaves, single=True)
-            yield ""
+            yield Section(("diverges",), {"from": self.names[comes[0]], "into": self._named(leaves),
+                                          **self._shares(comes, leaves, single=True)}, in_list=True)
         else:
             yield from self._junction(comes, leaves, signal)
 
-    def _straight(self, one: str, two: str) -> Iterator[str]:
+    def _merge(self, comes: list[str], into: str, giving: list[str]) -> Section:
+        """A merge of two streets, of which one may give way to the other."""
+        values: dict[str, Any] = {"from": self._named(comes), "into": self.names[into],
+                                  "priorities": [rounded(self._way((one, into)).priority) for one in comes]}
+        for one in giving:
+            values["yields_to"] = self.names[next(other for other in comes if other != one)]
+            values |= self.giving.taken[one, into].terms()
+        return Section(("merges",), values, in_list=True)
+
+    def _straight(self, one: str, two: str) -> Iterator[Section]:
         """A link from a street to the one into which all drive, with the signal between them."""
         if GATE + two == one or EXIT + one == two or self.chain_of[two][0] != two:
             return  # a gate, an exit, or a road that goes on
-        yield "[[links]]"
-        yield f"from = {quoted(self.names[one])}"
-        yield f"into = {quoted(self.names[two])}"
-        yield ""
+        yield Section(("links",), {"from": self.names[one], "into": self.names[two]}, in_list=True)
         if self._dark((one, two)):
-            yield from self._closed(self.names[one], 0.999 * sum(self.found.streets[street].length for street in
-                                                                 self.chain_of[one]))
+            yield _closed(self.names[one], 0.999 * sum(self.found.streets[street].length for street in self.chain_of[one]))
         elif self._signalled(one):
-            program = self.found.programs[self.found.streets[one].end]
-            (start, green), _ = self._phases([(one, two)], program.cycle)[0]
-            yield "[[signals]]"
-            yield f"road = {quoted(self.names[one])}"
-            yield f"cycle = {program.cycle:g}"
-            yield f"green = {green:g}"
-            yield f"first_green = {(program.offset + start) % program.cycle:g}"
-            if self.found.streets[one].end in self.following.nodes:
-                own = [program.stages[k] for k in stages_of(self._way((one, two)), program)]
-                yield from (f"actuated = {_actuated(stage)}" for stage in own[:1] if stage.least < stage.most)
-            yield ""
+            yield self._signal(one, two)
+
+    def _signal(self, one: str, two: str) -> Section:
+        """The signal at the end of a street."""
+        node = self.found.streets[one].end
+        program = self.found.programs[node]
+        (start, green), _ = self._phases([(one, two)], program.cycle)[0]
+        values: dict[str, Any] = {"road": self.names[one], "cycle": rounded(program.cycle), "green": rounded(green),
+                                  "first_green": rounded((program.offset + start) % program.cycle)}
+        own = [program.stages[k] for k in stages_of(self._way((one, two)), program)] if node in self.following.nodes else []
+        if own and own[0].least < own[0].most:
+            values["actuated"] = _actuated(own[0])
+        return Section(("signals",), values, in_list=True)
 
     def _dark(self, way: Movement) -> bool:
         """Whether a movement at a signal is green in no phase."""
         return self._signalled(way[0]) and way in self.found.ways and not self.found.ways[way].green
 
-    @staticmethod
-    def _closed(road: str, kilometre: float) -> Iterator[str]:
-        """A road, or its end, that nobody passes."""
-        yield from ["[[closures]]  # never green", f"road = {quoted(road)}", f"from = {kilometre:.6g}", "capacity = 0",
-                    ""]
+    def _named(self, arms: Sequence[str]) -> list[str]:
+        return [self.names[arm] for arm in arms]
 
-    def _named(self, arms: Sequence[str]) -> str:
-        return f"[{', '.join(quoted(self.names[arm]) for arm in arms)}]"
-
-    def _way(self, movement: Movement) -> Way:
+    def _way(self, movement: Movement) -> Connection:
         """A movement between streets; that of a gate or an exit is as wide as its street."""
         street = movement[1] if movement[0].startswith(GATE) else movement[0]
-        return self.found.ways.get(movement) or Way(self.found.streets[street].lanes, 1)
+        return self.found.ways.get(movement) or Connection(self.found.streets[street].lanes, 1)
 
-    def _junction(self, comes: list[str], leaves: list[str], signal: bool) -> Iterator[str]:
+    def _junction(self, comes: list[str], leaves: list[str], signal: bool) -> Iterator[Section]:
         ways = [[(one, two) if two in self.out_of.get(one, []) else None for two in leaves] for one in comes]
-        yield "[[junctions]]"
-        yield f"from = {self._named(comes)}"
-        yield f"into = {self._named(leaves)}"
-        yield f"lanes = {_matrix([[self._way(way).lanes if way else 0 for way in row] for row in ways])}"
-        yield f"priorities = {_matrix([[self._way(way).priority if way else 0 for way in row] for row in ways])}"
-        yield from self._shares(comes, leaves)
         own = [way for row in ways for way in row if way]
+        values = {"from": self._named(comes), "into": self._named(leaves),
+                  "lanes": [[self._way(way).lanes if way else 0 for way in row] for row in ways],
+                  "priorities": [[rounded(self._way(way).priority if way else 0) for way in row] for row in ways],
+                  **self._shares(comes, leaves)}
         if signal:
             node = next(self.found.streets[one].end for one in comes if one in self.found.streets)
             program = self.found.programs[node]
-            yield f"cycle = {program.cycle:g}"
-            yield f"offset = {program.offset:g}"
-            yield from ["phases = [", *(f"  {{ {phase} }}," for phase in self._phase_texts(node, own, program)), "]"]
-        yields = [f"  {{ movement = {self._named(way)}, yields_to = [{self._others(way)}], "
-                  f"{', '.join(self.giving.taken[way].terms())} }}," for way in own if way in self.giving.taken]
+            values |= {"cycle": rounded(program.cycle), "offset": rounded(program.offset),
+                       "phases": Rows(self._phase_rows(node, own, program))}
+        yields = Rows({"movement": self._named(way), "yields_to": self._others(way), **self.giving.taken[way].terms()} for way in own
+                      if way in self.giving.taken)
         if yields:
-            yield from ["yields = [", *yields, "]"]
-        yield ""
-        for one, two in (way for row in ways for way in row if way and self._dark(way)):
-            yield from self._closed(f"{self.names[one]}-{self.names[two]}", 0)
+            values["yields"] = yields
+        yield Section(("junctions",), values, in_list=True)
+        yield from (_closed(f"{self.names[one]}-{self.names[two]}", 0) for one, two in own if self._dark((one, two)))
 
-    def _others(self, way: Movement) -> str:
+    def _others(self, way: Movement) -> list[list[Any]]:
         """To whom a movement gives way."""
-        return ", ".join(self._named(other) if count == 1 else f"{self._named(other)[:-1]}, {count}]"
-                         for other, count in self.giving.taken[way].others.items())
+        return [[*self._named(other), *([count] if count > 1 else [])] for other, count in self.giving.taken[way].others.items()]
 
-    def _phase_texts(self, node: str, ways: Sequence[Movement], program: Program) -> Iterator[str]:
+    def _phase_rows(self, node: str, ways: Sequence[Movement], program: Program) -> Iterator[dict[str, Any]]:
         """The phases of a junction: those that follow traffic, those in whose greens some give way, or its greens as they are."""
         if node in self.following.nodes:
             for k, stage in enumerate(program.stages):
                 own = [way for way in ways if k in stages_of(self._way(way), program)]
-                follows = f", actuated = {_actuated(stage)}" if stage.least < stage.most else ""
+                follows = {"actuated": _actuated(stage)} if stage.least < stage.most else {}
                 if own:
-                    yield f"start = {stage.start:g}, green = {stage.lasting:g}, movements = [{self._listed(own)}]{follows}"
+                    yield {**self._phase(stage.start, stage.lasting, own), **follows}
         elif any(way in self.giving.taken for way in ways):
             for part in stages({way: self._way(way) for way in ways}, self.giving.taken, program.cycle):
-                gives = f", permitted = [{self._listed(part.gives)}]" if part.gives else ""
+                gives = {"permitted": [self._named(way) for way in part.gives]} if part.gives else {}
                 start, end = part.span
-                yield f"start = {start:g}, green = {end - start:g}, movements = [{self._listed(part.green)}]{gives}"
+                yield {**self._phase(start, end - start, part.green), **gives}
         else:
             for (start, green), own in self._phases(ways, program.cycle):
-                yield f"start = {start:g}, green = {green:g}, movements = [{self._listed(own)}]"
+                yield self._phase(start, green, own)
 
-    def _listed(self, ways: Sequence[Movement]) -> str:
-        return ", ".join(self._named(way) for way in ways)
+    def _phase(self, start: float, green: float, ways: Sequence[Movement]) -> dict[str, Any]:
+        return {"start": rounded(start), "green": rounded(green), "movements": [self._named(way) for way in ways]}
 
     def _phases(self, ways: Sequence[Movement], cycle: float) -> list[tuple[tuple[float, float], list[Movement]]]:
         """The greens of a node, each from when on, for how long, and the movements that have it."""
@@ -398,24 +356,21 @@ class Writer:
             greens.setdefault((start % cycle, min(end - start, cycle)), []).append(way)
         return sorted(greens.items())
 
-    def _shares(self, comes: list[str], leaves: list[str], single: bool = False) -> Iterator[str]:
+    def _shares(self, comes: list[str], leaves: list[str], single: bool = False) -> dict[str, Any]:
         """The shares of the whole time, and those of the spans in which they differ."""
-        moved = self.traffic.moved
+        moved, terms = self.traffic.moved, self.terms
         whole = [[sum(moved.get((one, two), [])) for two in leaves] for one in comes]
-        yield f"shares = {_numbers(whole[0]) if single else _matrix(_parts(whole))}"
-        rows = []
+        rows = Rows()
         for span in range(self.traffic.spans if self.traffic.spans > 1 else 0):
             here = [[moved[one, two][span] if (one, two) in moved else 0.0 for two in leaves] for one in comes]
             own = [row if sum(row) > 0 else all_ for row, all_ in zip(here, whole)]
             begin, end = (time * self.traffic.interval for time in (span, span + 1))
-            if begin < self.terms.duration and any(_differ(row, all_) for row, all_ in zip(own, whole)):
-                shares = _numbers(own[0]) if single else _matrix(_parts(own))
-                ends = f"start = {self._time(begin)}, end = {self._time(min(end, self.terms.duration))}"
-                rows.append(f"  {{ {ends}, shares = {shares} }},")
-        if rows:
-            yield from ["turns = [", *rows, "]"]
+            if begin < terms.duration and any(_differ(row, all_) for row, all_ in zip(own, whole)):
+                rows.append({"start": terms.clock(begin), "end": terms.clock(min(end, terms.duration)),
+                             "shares": _numbers(own[0]) if single else _matrix(_parts(own))})
+        return {"shares": _numbers(whole[0]) if single else _matrix(_parts(whole)), **({"turns": rows} if rows else {})}
 
-    def _notes(self) -> list[str]:
+    def notes(self) -> list[str]:
         """What isn't kept: that of the network, and what is in the making of the study."""
         notes = [*self.found.notes, "vehicles have no routes of their own: at each junction they turn by the shares of "
                  "those who drive there in each span"]
@@ -437,7 +392,7 @@ class Writer:
             notes.append(f"{len(short)} roads are shorter than half a cell and become one, as "
                          f"{rounded_text(sum(self.found.streets[one].length for one in short[0]) * 1000)} m at "
                          f"{self._called(short[0][0])}")
-        return notes
+        return list(map(visible, notes))
 
     def _called(self, street: str) -> str:
         """What messages call a street: its own name, or where that is a map's number the name of its road."""
@@ -451,9 +406,19 @@ class Writer:
         return self.found.streets[street].speed * self.terms.step / 3600
 
 
-def _actuated(stage: Stage) -> str:
+def rounded(value: float) -> Fraction:
+    """A number to six digits."""
+    return Fraction(f"{value:.6g}")
+
+
+def _actuated(stage: Stage) -> dict[str, Fraction]:
     """How a green follows traffic; its least is above 0, and it ends some time."""
-    return f"{{ least = {max(1, stage.least):g}, most = {min(HOUR, stage.most):g}, gap = {stage.gap:g} }}"
+    return {"least": rounded(max(1, stage.least)), "most": rounded(min(HOUR, stage.most)), "gap": rounded(stage.gap)}
+
+
+def _closed(road: str, kilometre: float) -> Section:
+    """A road, or its end, that nobody passes."""
+    return Section(("closures",), {"road": road, "from": rounded(kilometre), "capacity": 0}, in_list=True, behind="never green")
 
 
 def _parts(rows: Sequence[Sequence[float]]) -> list[list[float]]:
@@ -466,9 +431,9 @@ def _differ(row: Sequence[float], whole: Sequence[float]) -> bool:
     return any(abs(one - two) > 100 * CHANGED for one, two in pairs)
 
 
-def _numbers(row: Sequence[float]) -> str:
-    return f"[{', '.join(f'{value:.6g}' for value in row)}]"
+def _numbers(row: Sequence[float]) -> list[Fraction]:
+    return list(map(rounded, row))
 
 
-def _matrix(rows: Sequence[Sequence[float]]) -> str:
-    return f"[{', '.join(map(_numbers, rows))}]"
+def _matrix(rows: Sequence[Sequence[float]]) -> list[list[Fraction]]:
+    return list(map(_numbers, rows))

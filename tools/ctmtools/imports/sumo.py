@@ -6,12 +6,11 @@ from collections import Counter
 from collections.abc import Iterator
 from pathlib import Path
 
-from . import sumo_net, sumolib_net
-from ..first_few import first_few
 from ..study.coordinates import METRES, coded
-from .streets import (ALL_STOP, GIVE_WAY, LEFT, RIGHT, STOP, THROUGH, ZIPPER, Movement, Program, Span, Stage, Street, Streets,
-                      Way)
-from .sumo_net import CAR, Edge, Lane, Link, Location, Logic, LogicPhase, Net
+from ..texts.text_table import first_few
+from .streets import (ALL_STOP, GIVE_WAY, LEFT, RIGHT, STOP, THROUGH, ZIPPER, Connection, Movement, Program, Span, Stage, Street,
+                      Streets)
+from .sumo_net import CAR, Edge, Lane, Link, Location, Logic, LogicPhase, Net, read_net
 
 GREEN = "GgoO"  # a signal that is green, or off
 MINOR = "go"  # one that is green, or off, for who gives way
@@ -25,11 +24,6 @@ CONTROLS = {"s": STOP, "w": ALL_STOP, "Z": ZIPPER}  # by the state of a connecti
 def read_network(path: str | Path) -> Streets:
     """The streets of a network file of SUMO, without trips."""
     return streets_of(read_net(path), str(path))
-
-
-def read_net(path: str | Path) -> Net:
-    """What a network file of SUMO says, read by sumolib where that is there and can read the file."""
-    return sumolib_net.read(path) or sumo_net.read(path)
 
 
 def streets_of(net: Net, place: str) -> Streets:
@@ -105,7 +99,7 @@ def _connections(net: Net, found: Streets) -> list[Link]:
         own = [link for link in links if CAR in classes[link.source, link.lane]] or links
         lanes = len({link.lane for link in own})
         turns = TURNS.get(own[-1].turn, THROUGH)
-        found.ways[pair] = Way(lanes, lanes * (MAJOR if own[-1].state in "M=OG" else 1), classes=frozenset().union(
+        found.ways[pair] = Connection(lanes, lanes * (MAJOR if own[-1].state in "M=OG" else 1), classes=frozenset().union(
             *(classes[link.source, link.lane] for link in links)), turns=MIRRORED[turns] if net.on_the_left else turns,
             control=CONTROLS.get(own[-1].state, GIVE_WAY), ring=_ring(net, found, pair))
         kept += own

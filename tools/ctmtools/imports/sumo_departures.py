@@ -7,8 +7,7 @@ from collections.abc import Iterator, Mapping
 from dataclasses import dataclass
 
 from ..problem import Problem
-from .sumo_net import Element
-from .sumo_times import amount_of, seconds_of
+from .sumo_net import Element, amount_of, seconds_of
 
 RATES = ("vehsPerHour", "perHour", "period", "probability")
 TIMELESS = ("triggered", "containerTriggered", "split", "now")  # departures at no time that the file says

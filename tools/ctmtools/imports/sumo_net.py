@@ -3,12 +3,16 @@
 from __future__ import annotations
 
 import gzip
-from collections.abc import Iterable
+import math
+import re
+import zlib
+from collections.abc import Iterable, Iterator
+from contextlib import contextmanager
 from dataclasses import dataclass, field
-from io import BufferedIOBase
 from pathlib import Path
 from xml.etree import ElementTree
 
+from ..files.unpacking import BinaryInput, opened
 from ..problem import Problem, one_line, reason
 
 CAR = "passenger"
@@ -18,8 +22,11 @@ FUNCTIONS = ("normal", "connector")  # of the edges that are streets
 YES = ("true", "1", "yes", "on", "x", "t")  # as SUMO has it
 GAP = 3.0  # s, SUMO's `max-gap` of actuated signals
 INTERNAL = ":"  # before the names of edges and nodes within a junction
+# What a parser and an unpacker raise, the first also for an encoding that they don't know.
+UNREADABLE = (ElementTree.ParseError, LookupError, ValueError, EOFError, gzip.BadGzipFile, zlib.error)
 Element = ElementTree.Element
 Points = list[tuple[float, float]]  # in m
+CLOCK = re.compile(r"(?:(?P<days>\d+):)?(?P<hours>\d+):(?P<minutes>\d+):(?P<seconds>\d+(?:\.\d*)?)")
 
 
 @dataclass(frozen=True)
@@ -117,50 +124,45 @@ class Net:
     location: Location | None = None
 
 
-def name_of(path: str | Path) -> str:
-    """The name of a network by that of its file."""
-    return Path(path).name.removesuffix(".gz").removesuffix(".xml").removesuffix(".net")
-
-
 def read_xml(path: str | Path, *tags: str) -> Element:
     """The root of an XML file, which has to be of one of some tags."""
     check_root(path, *tags)
-    try:
-        with opened(path) as file:
-            return ElementTree.parse(file).getroot()
-    except (ElementTree.ParseError, EOFError) as error:
-        raise Problem(f"{path}: no XML: {one_line(error)}") from None
-
-
-def on_the_left(path: str | Path) -> bool:
-    """Whether one drives on the left in the network of a file."""
-    return check_root(path, "net").get("lefthand") in YES
+    with reading(path) as file:
+        return ElementTree.parse(file).getroot()
 
 
 def check_root(path: str | Path, *tags: str) -> Element:
     """The first element of a file with its attributes alone; refuses one that is no XML, or is of none of some tags."""
-    try:
-        with opened(path) as file:
-            _, root = next(iter(ElementTree.iterparse(file, events=("start",))))
-    except (ElementTree.ParseError, StopIteration, EOFError, gzip.BadGzipFile) as error:
-        raise Problem(f"{path}: no XML: {one_line(error) or 'the file is empty'}") from None
-    except OSError as error:
-        raise Problem(f"{path}: {reason(error)}") from None
+    root = next(elements(path, "start"))
     if root.tag not in tags:
         raise Problem(f"{path}: expected <{'> or <'.join(tags)}>, found <{root.tag}>")
     return root
 
 
-def opened(path: str | Path) -> BufferedIOBase:
-    """The file to read from, unpacked where its name ends with .gz."""
-    return gzip.GzipFile(path) if Path(path).suffix == ".gz" else open(path, "rb")
+def elements(path: str | Path, event: str, told: str | None = None) -> Iterator[Element]:
+    """The elements of an XML file as they "start" or "end"; where it is none, the problem of the file that is `told`."""
+    with reading(path, told) as file:
+        for _, element in ElementTree.iterparse(file, events=(event,)):
+            yield element
 
 
-def read(path: str | Path) -> Net:
-    """The network in a file, by its XML."""
+@contextmanager
+def reading(path: str | Path, told: str | None = None) -> Iterator[BinaryInput]:
+    """The file of some XML to be parsed; where it is none, the problem of the file that is `told`."""
+    try:
+        with opened(path) as file:
+            yield file
+    except UNREADABLE as error:
+        raise Problem(f"{told or path}: no XML: {one_line(error)}") from None
+    except OSError as error:
+        raise Problem(f"{told or path}: {reason(error)}") from None
+
+
+def read_net(path: str | Path) -> Net:
+    """The network in a file, which has its name."""
     root = read_xml(path, "net")
     try:
-        return _net(root, name_of(path))
+        return _net(root, Path(path).name.removesuffix(".gz").removesuffix(".xml").removesuffix(".net"))
     except ValueError as error:
         raise Problem(f"{path}: expected a number: {one_line(error)}") from None
 
@@ -176,14 +178,15 @@ def _net(root: Element, name: str) -> Net:
     rings = list(root.iter("roundabout"))
     return Net(name, edges, links, logics, nodes, [frozenset(ring.get("edges", "").split()) for ring in rings],
                [ring.get("nodes", "").split() for ring in rings], root.get("lefthand") in YES,
-               None if where is None else location(where.get("netOffset", "0,0"), where.get("projParameter", "!")))
+               None if where is None else _location(where))
 
 
-def location(offset: str, projection: str) -> Location | None:
-    """The place of a network by its words; none where its coordinates are of no projection."""
+def _location(where: Element) -> Location | None:
+    """Where a network lies; nowhere where its coordinates are of no projection."""
+    projection = where.get("projParameter", "!")
     if projection in ("!", "-", ""):
         return None
-    x, y = map(float, offset.split(",")[:2])
+    x, y = map(float, where.get("netOffset", "0,0").split(",")[:2])
     return Location((x, y), projection)
 
 
@@ -199,10 +202,10 @@ def _edge(edge: Element, nodes: dict[str, Node]) -> Edge:
 def _allowed(lane: Element) -> frozenset[str]:
     """The classes of motor vehicles that may use a lane."""
     allowed, barred = lane.get("allow", "").split(), lane.get("disallow", "").split()
-    return motor(allowed) if allowed else MOTOR - motor(barred)
+    return _motor(allowed) if allowed else MOTOR - _motor(barred)
 
 
-def motor(classes: Iterable[str]) -> frozenset[str]:
+def _motor(classes: Iterable[str]) -> frozenset[str]:
     """The motor vehicles among some classes, which `all` stands for."""
     named = set(classes)
     return MOTOR if "all" in named else MOTOR & named
@@ -211,10 +214,10 @@ def motor(classes: Iterable[str]) -> frozenset[str]:
 def _node(node: Element) -> Node:
     requests = {int(request.get("index", 0)): request.get("response", "") for request in node.iter("request")}
     return Node((float(node.get("x", 0)), float(node.get("y", 0))), node.get("type", ""),
-                yields(node.get("intLanes", "").split(), requests))
+                _yields(node.get("intLanes", "").split(), requests))
 
 
-def yields(lanes: list[str], responses: dict[int, str]) -> dict[str, frozenset[str]]:
+def _yields(lanes: list[str], responses: dict[int, str]) -> dict[str, frozenset[str]]:
     """To which lanes of a node each gives way, by its response: one letter for each lane, the last for the first."""
     found = {}
     for index, response in responses.items():
@@ -226,17 +229,38 @@ def yields(lanes: list[str], responses: dict[int, str]) -> dict[str, frozenset[s
 def _link(link: Element, onward: dict[str, str]) -> Link:
     via = link.get("via", "")
     return Link(link.get("from", ""), link.get("to", ""), int(link.get("fromLane", 0)), link.get("tl", ""),
-                int(link.get("linkIndex", 0)), link.get("state", "M"), onward.get(via, via), link.get("dir", "s"))
+                max(0, int(link.get("linkIndex", 0))), link.get("state", "M"), onward.get(via, via), link.get("dir", "s"))
 
 
 def _logic(logic: Element) -> Logic:
-    phases = [logic_phase(float(phase.get("duration", 0)), phase.get("state", ""), phase.get("minDur"), phase.get("maxDur"))
-              for phase in logic.iter("phase")]
+    phases = [_phase(phase) for phase in logic.iter("phase")]
     params = {param.get("key"): param.get("value") for param in logic.iter("param")}
     return Logic(logic.get("id", ""), logic.get("type", "static"), float(logic.get("offset", 0)), phases,
                  float(params.get("max-gap") or GAP))
 
 
-def logic_phase(lasting: float, state: str, least: str | float | None, most: str | float | None) -> LogicPhase:
-    """A phase; without a least or a most it lasts as long as it says."""
-    return LogicPhase(lasting, state, lasting if least is None else float(least), lasting if most is None else float(most))
+def _phase(phase: Element) -> LogicPhase:
+    """A phase; without a least or a most it lasts as long as it says, and a negative one is none."""
+    lasting = float(phase.get("duration", 0))
+    least, most = (float(phase.get(word, -1)) for word in ("minDur", "maxDur"))
+    return LogicPhase(lasting, phase.get("state", ""), lasting if least < 0 else least, lasting if most < 0 else most)
+
+
+def seconds_of(text: str, key: str) -> float:
+    """The seconds that a text spells: `1800`, `00:30:00`, or with days before it `0:00:30:00`."""
+    clock = CLOCK.fullmatch(text.strip())
+    if clock:
+        days, hours, minutes = (int(clock[name] or 0) for name in ("days", "hours", "minutes"))
+        return ((days * 24 + hours) * 60 + minutes) * 60 + float(clock["seconds"])
+    return amount_of(text, key, "seconds or a clock time such as 00:30:00")
+
+
+def amount_of(text: str, key: str, expected: str = "a number of 0 or more") -> float:
+    """The number that a text spells, which isn't negative."""
+    try:
+        found = math.nan if "_" in text else float(text)  # Python takes 1_000 for a number
+    except ValueError:
+        found = math.nan
+    if not 0 <= found < math.inf:
+        raise Problem(f"{key}: expected {expected}, found \"{text}\"")
+    return found

@@ -11,11 +11,11 @@ from collections.abc import Iterator, Sequence
 from itertools import pairwise
 from pathlib import Path
 
-from ..first_few import first_few
 from ..problem import Problem
+from ..study.folder import file_beside
+from ..texts.text_table import first_few
 from .streets import SpeedSpan, Street, Streets
-from .sumo_net import Element, read_xml
-from .sumo_times import seconds_of
+from .sumo_net import Element, read_xml, seconds_of
 
 SIGN = "variableSpeedSign"
 ROOTS = ("vss", "variableSpeedSigns", SIGN, "additional", "add", "steps")  # of a file of steps
@@ -41,7 +41,7 @@ def read_signs(found: Streets, roots: Sequence[tuple[str, Element]]) -> None:
 
 def _steps(path: str, sign: Element) -> Steps:
     """The steps of a sign, of its file where it names one."""
-    root = read_xml(Path(path).parent / sign.get("file", ""), *ROOTS) if sign.get("file") else sign
+    root = read_xml(file_beside(Path(path), sign.get("file", ""), path, "file"), *ROOTS) if sign.get("file") else sign
     key = f"{path}: {SIGN} {sign.get('id', '')}"
     return [(seconds_of(step.get("time", ""), f"{key}, time"), _speed(step.get("speed"), f"{key}, speed")) for step in root.iter("step")]
 

@@ -7,11 +7,11 @@ from collections.abc import Iterator, Sequence
 from pathlib import Path
 
 from ..problem import Problem
+from ..study.folder import file_beside
 from .streets import Said, Streets, Trip
 from .sumo_departures import Departing, Stretch
-from .sumo_kinds import Kinds, parts_of
 from .sumo_net import MOTOR, Element, read_xml
-from .sumo_routes import ANY_STREET, Routes, Weighted
+from .sumo_routes import ANY_STREET, Kinds, Routes, Weighted, parts_of
 from .sumo_signs import read_signs
 
 ROOTS = ("routes", "additional", "add", "trips", "flows")
@@ -48,7 +48,7 @@ def elements(path: str | Path, around: tuple[Path, ...] = ()) -> Iterator[Elemen
     """The elements of a file, and of those that it includes; `around` are the files that include it."""
     for element in read_xml(path, *ROOTS):
         if element.tag == "include":
-            inner = Path(path).parent / element.get("href", "")
+            inner = file_beside(Path(path), element.get("href", ""), str(path), "file")
             if inner.resolve() in (Path(path).resolve(), *around):
                 raise Problem(f"{path}: includes {element.get('href')}, which includes it")
             yield from elements(inner, (*around, Path(path).resolve()))

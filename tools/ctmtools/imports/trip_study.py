@@ -2,19 +2,20 @@
 
 from __future__ import annotations
 
-import tomllib
+from dataclasses import replace
 from fractions import Fraction
 from typing import Any
 
 import networkx
 
 from ..problem import Problem
-from ..study.writing import study_text
+from ..study.writing import Rows, sections, text_of
 from .streets import Movement, Streets, Trip, reached
 from .study_file import Terms, Writer
 from .traffic import EXIT, GATE, Traffic
 
 ROUTES = "vehicles have no routes of their own"  # of the note of a study with shares
+FOLLOWS = {"diverges": ("shares", "turns"), "junctions": ("shares", "turns"), "gates": ("demand",)}  # from the trips
 
 
 def trip_study_text(writer: Writer, interval: float, until: float, file: str | None = None) -> str:
@@ -22,18 +23,22 @@ def trip_study_text(writer: Writer, interval: float, until: float, file: str | N
 
     With a `file` they are those of a list of trips beside the study.
     """
-    found = writer.found
-    values = tomllib.loads("\n".join(writer.lines()), parse_float=Fraction)
-    for joint in [*values.get("diverges", []), *values.get("junctions", [])]:
-        joint.pop("shares", None)
-        joint.pop("turns", None)
-    for gate in values["gates"].values():
-        gate.pop("demand", None)
-    values["notes"] = [note for note in values.get("notes", []) if not note.startswith(ROUTES)]
+    found, values = writer.found, writer.values()
+    values["notes"] = Rows(notes_of(writer, trips=True))
     values["routing"] = {"interval": round(interval)}
-    values["trips"] = {"file": file} if file else [_pair(pair, rows, writer.terms, interval, writer.names)
-                                                   for pair, rows in _by_pair(found.trips, interval, until).items()]
-    return study_text(values, f"Made by ctm-tools import of {found.title}, with its trips")
+    trips: Any = {"file": file} if file else [_pair(pair, rows, writer.terms, interval, writer.names)
+                                              for pair, rows in _by_pair(found.trips, interval, until).items()]
+    if file:
+        values["trips"] = trips
+    tables = (replace(table, values={name: value for name, value in table.values.items() if name not in FOLLOWS.get(table.names[0], ())})
+              for table in writer.tables())
+    return text_of(values, [*tables, *([] if file else sections("trips", trips))],
+                   f"Made by ctm-tools import of {found.title}, with its trips")
+
+
+def notes_of(writer: Writer, trips: bool) -> list[str]:
+    """What of the network a study doesn't keep, with trips or without."""
+    return [note for note in writer.notes() if not (trips and note.startswith(ROUTES))]
 
 
 def open_traffic(found: Streets, until: float) -> Traffic:

@@ -5,7 +5,7 @@ from __future__ import annotations
 from cmath import phase
 from math import degrees
 
-from .streets import LEFT, RIGHT, THROUGH, Movement, Street, Way
+from .streets import LEFT, RIGHT, THROUGH, Connection, Movement, Street
 
 SLIGHT = 45.0  # degrees by which a way turns and still goes through
 WORDS = {"l": LEFT, "r": RIGHT, "t": THROUGH, "u": LEFT}  # by the first letter of left, right, thru and uturn
@@ -36,6 +36,6 @@ def _leg(points: list[tuple[float, float]]) -> complex:
     return complex(*points[1]) - complex(*points[0]) if len(points) == 2 else 0j
 
 
-def meet(pair: Movement, way: Way, other: Movement, its: Way) -> bool:
+def meet(pair: Movement, way: Connection, other: Movement, its: Connection) -> bool:
     """Whether two movements of a node from two streets meet: both lead into one street, or neither turns right."""
     return pair[1] == other[1] or RIGHT not in (way.turns, its.turns)

@@ -9,13 +9,12 @@ from pathlib import Path
 
 import networkx
 
-from ..network_file.network import read_bytes
+from ..files.reading import read_bytes
 from ..problem import Problem
 from . import gmns_tables
 from .gmns_tables import ZONAL, once, read_table
 from .streets import Said, Streets, Trip
-from .sumo_net import read_xml
-from .sumo_times import amount_of
+from .sumo_net import amount_of, read_xml
 
 TIMES = re.compile(r"(\d+)\.(\d+)\s+(\d+)\.(\d+)(\s.*)?", re.ASCII)  # hours and minutes, twice
 

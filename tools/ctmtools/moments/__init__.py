@@ -1,1 +1,2 @@
-"""Saved moments of runs: their text, going on from them, runs in stretches, futures of one moment, and ramp meters."""
+# Imports files, network_file, program, study, texts, units
+"""Saved moments of runs: their text, going on from them, and ramp meters."""

@@ -18,17 +18,16 @@ from time import monotonic
 
 import numpy
 
-from ..amounts import PARTS
-from ..files import write
-from ..network_file.editing import with_records
-from ..network_file.kinds import record_text
+from ..files.writing import write
+from ..network_file.checksums import checksum
+from ..network_file.kinds import record, record_of
+from ..network_file.network import Network
 from ..study.network_text import FIXED, Built
-from ..study.plan import ActuatedJunction, ActuatedPhase, StopLine, Study
-from ..checksums import checksum
+from ..study.plan import ActuatedJunction, ActuatedPhase, StopLine, Scenario
+from ..texts.amounts import PARTS
 from ..units import cell_of
-from .kept_state import kept_state, state_text
+from .moment import Moment, kept_state, state_text
 from .runner import Runner
-from .moment import Moment
 
 KEPT = ".actuated.json"  # the ending of what is kept of greens that aren't done
 KEPT_EACH = 2.0  # seconds
@@ -37,7 +36,6 @@ KEPT_EACH = 2.0  # seconds
 def kept_path(target: Path) -> Path:
     """Where what was reached of greens that follow traffic is kept: beside the report."""
     return target.with_suffix(KEPT)
-
 
 
 @dataclass
@@ -63,16 +61,16 @@ class Point:
 class ActuatedSignals:
     """The network so far, with the reds that were set, and the moment that was reached."""
 
-    def __init__(self, built: Built, study: Study, runner: Runner, kept: Path | None = None) -> None:
+    def __init__(self, built: Built, study: Scenario, runner: Runner, kept: Path | None = None) -> None:
         self.built, self.runner, self.step, self.network, self.kept = built, runner, study.step, built.network, kept
         self.controllers = [Controller(one, self._steps(one.offset)) for one in study.actuated]
-        self.mark = checksum(built.text.encode() + repr(study.actuated).encode())
+        self.mark = checksum(built.network.content + repr(study.actuated).encode())
         self.saved = monotonic()
         self.lines = {line: self._cells(line, study) for one in study.actuated for phase in one.phases for line in phase.lines}
-        self.places = {name: place for place, name in enumerate(self.network.cells.index)}
-        stop_lines = tuple(f"signal,{cells[-1]}," for cells in self.lines.values())
-        self.own = "".join(line for line in built.text.splitlines(keepends=True) if not line.startswith(stop_lines)).encode()
-        self.reds = [record_text("limit", cells[-1], 0, one.next, 0) for one in self.controllers if one.next
+        self.places = {name: place for place, name in enumerate(self.network.kinds)}
+        stop_lines = {cells[-1] for cells in self.lines.values()}
+        self.own = self.network.without([one for one in self.network.records if one.kind == "signal" and one.values[0] in stop_lines])
+        self.reds = [record("limit", cells[-1], 0, one.next, 0) for one in self.controllers if one.next
                      for cells in self._approaches(one)]
         self.seen: dict[str, tuple[int, int]] = {}  # for each stop line's cell its last green's step, and what had come before it
         self.moment: Moment | None = None
@@ -97,13 +95,13 @@ class ActuatedSignals:
             raise
         units = replace(self.built.units, cycles={**self.built.units.cycles, **self._cycles()})
         warnings = [line for line in self.built.warnings if FIXED not in line]
-        return replace(self.built, text=self._content().decode(), units=units, warnings=warnings,
+        return replace(self.built, network=self._reached(), units=units, warnings=warnings,
                        remarks=[*self.built.remarks, *(self._told(one) for one in self.controllers)])
 
     def _steps(self, seconds: Fraction) -> int:
         return max(0, round(seconds / self.step))
 
-    def _cells(self, line: StopLine, study: Study) -> Sequence[str]:
+    def _cells(self, line: StopLine, study: Scenario) -> Sequence[str]:
         """The cells before a stop line, from the one behind the stop line before it on, or its gate."""
         units, (road, at) = self.built.units, line
         cells = units.roads.get(road)
@@ -126,7 +124,7 @@ class ActuatedSignals:
         assert self.moment is not None
         rows = [{"next": at, "phase": phase, "greens": one.greens[:greens], "began": one.began[:began]}
                 for one, (at, phase, greens, began) in zip(self.controllers, self.point.controllers)]
-        return state_text(self.mark, self.moment, reds=self.reds[:self.point.reds], seen=self.point.seen, controllers=rows)
+        return state_text(self.mark, self.moment, reds=[one.text for one in self.reds[:self.point.reds]], seen=self.point.seen, controllers=rows)
 
     def _keep(self) -> None:
         """Keeps what was reached, once there is something."""
@@ -139,7 +137,7 @@ class ActuatedSignals:
         state = kept_state(self.kept, self.mark)
         if state is None:
             return
-        self.reds = state["reds"]
+        self.reds = [record_of(text) for text in state["reds"]]
         self.seen = {cell: (step, come) for cell, (step, come) in state["seen"].items()}
         for one, was in zip(self.controllers, state["controllers"]):
             one.next, one.phase, one.began = was["next"], was["phase"], was["began"]
@@ -147,8 +145,11 @@ class ActuatedSignals:
         self.moment = state["moment"].of(self._content())
         self.point = self._point()
 
+    def _reached(self) -> Network:
+        return self.own.with_more(self.reds)
+
     def _content(self) -> bytes:
-        return with_records(self.own, self.reds)
+        return self._reached().content
 
     def _go_to(self, step: int) -> None:
         """Takes the moment to a step; there is none at step 0."""
@@ -167,7 +168,7 @@ class ActuatedSignals:
         for line in dict.fromkeys(line for each in phases for line in each.lines):
             red = one.next if line not in phase.lines else stop if line in behind.lines and behind is not phase else end
             if red < min(stop, self.network.steps):
-                self.reds.append(record_text("limit", self.lines[line][-1], red, min(stop, self.network.steps), 0))
+                self.reds.append(record("limit", self.lines[line][-1], red, min(stop, self.network.steps), 0))
         if one.phase == 0:
             one.began.append(one.next)
         one.greens.append((one.phase, green))
@@ -190,9 +191,9 @@ class ActuatedSignals:
         self.seen[cells[-1]] = now, come
         coming = (come - had_come) / PARTS / (now - before) if now > before else 0.0
         paces, moment = self.network.paces, numpy.array([now, now + 1.0])
-        steps = sum(1 / paces[cell].mean(moment)[0] if cell in paces else 1 for cell in cells)  # at free flow
-        waiting = sum(row.n for row in rows) / PARTS - coming * steps
-        passing = float(self.network.cells.Q[cells[-1]])
+        steps = sum(1 / float(paces[cell].mean(moment)[0]) if cell in paces else 1 for cell in cells)  # at free flow
+        waiting: float = sum(row.n for row in rows) / PARTS - coming * steps
+        passing = self.network.capacities[cells[-1]]
         return max(0.0, waiting) / (passing - coming) if coming < passing else float(self.network.steps)
 
     def _cycles(self) -> dict[str, int]:

@@ -14,12 +14,12 @@ from typing import Any
 
 import numpy
 
-from ..amounts import PARTS
+from ..arrays import Flags, Wholes
 from ..network_file.kinds import CELLS, CONNECTORS, KINDS
 from ..network_file.naming import Naming
 from ..network_file.network import Network
+from ..texts.amounts import PARTS
 
-Numbers = numpy.ndarray
 Spans = list[tuple[int, int, int]]  # from, to and a value, in the order of the file
 Values = tuple[Any, ...]  # of a record: its kind, and what its fields hold, amounts in parts
 
@@ -65,8 +65,8 @@ def difference(saved: Network, other: Network, until: int, naming: Naming) -> Di
 def plan_of(network: Network) -> Plan:
     """The plan of a network."""
     plan = Plan()
-    for record in network.records[1:]:
-        kind, values = record.kind, KINDS[record.kind].values(record.fields[1:])
+    for record in network.records:
+        kind, values = record.kind, record.named
         if kind in CELLS:
             plan.cells.append((kind, *values.values()))
             plan.capacity[values["name"]] = values["Q"]
@@ -87,7 +87,6 @@ def plan_of(network: Network) -> Plan:
 def _pair(first: int, second: int) -> int:
     """Two numbers, each at most 1,000, as one."""
     return first * 1001 + second
-
 
 OWN = _pair(1, 1)  # a road's own speed
 
@@ -152,7 +151,7 @@ def _lights(saved: Plan, other: Plan, until: int, naming: Naming) -> Iterator[Di
                      lambda value: "green" if value else "red")
 
 
-def _first(saved: object, other: object, at_steps: Callable[..., Numbers], what: str,
+def _first(saved: object, other: object, at_steps: Callable[..., Wholes | Flags], what: str,
            told: Callable[[int], str]) -> Difference | None:
     """The first step at which what the one and the other say has another value."""
     if saved == other:
@@ -165,7 +164,7 @@ def _first(saved: object, other: object, at_steps: Callable[..., Numbers], what:
     return Difference(step, f"{what} is {told(int(two[step]))}, and {told(int(one[step]))} in the saved one")
 
 
-def last_of(spans: Spans, own: int, until: int) -> Numbers:
+def last_of(spans: Spans, own: int, until: int) -> Wholes:
     """The value at each step of spans of which the last one in the file holds."""
     values = numpy.full(until, own, dtype=numpy.int64)
     for begin, end, value in spans:
@@ -173,7 +172,7 @@ def last_of(spans: Spans, own: int, until: int) -> Numbers:
     return values
 
 
-def _sum_of(spans: Spans, until: int) -> Numbers:
+def _sum_of(spans: Spans, until: int) -> Wholes:
     """The sum at each step of spans that add up."""
     values = numpy.zeros(until, dtype=numpy.int64)
     for begin, end, value in spans:
@@ -181,7 +180,7 @@ def _sum_of(spans: Spans, until: int) -> Numbers:
     return values
 
 
-def _green(signal: Sequence[int] | None, until: int) -> Numbers:
+def _green(signal: Sequence[int] | None, until: int) -> Flags:
     """Whether a light is green at each step; without a signal it always is."""
     if signal is None:
         return numpy.ones(until, dtype=bool)

@@ -18,23 +18,20 @@ from pathlib import Path
 import numpy
 import pandas
 
-from ..amounts import PARTS, rounded_parts
-from ..files import write
-from ..network_file.editing import with_records
-from ..network_file.kinds import record_text
+from ..files.writing import write
+from ..network_file.checksums import checksum
+from ..network_file.kinds import Record, record, record_of
 from ..network_file.network import Network
 from ..network_file.pace import Pace
 from ..problem import Problem
 from ..study.network_text import Built
 from ..study.plan import Meter
-from ..checksums import checksum
+from ..texts.amounts import PARTS, rounded_parts
+from ..texts.quantities import HOUR
 from ..units import Units
 from .agreement import Plan, last_of, plan_of
-from .kept_state import kept_state, state_text
+from .moment import Moment, kept_state, state_text
 from .runner import Runner
-from .moment import Moment
-
-HOUR = 3600
 
 
 @dataclass
@@ -76,7 +73,7 @@ def gauge_of(meter: Meter, network: Network, units: Units) -> Gauge:
         raise Problem(f"{place}.ramp: there is no road and no gate {meter.ramp}")
     detector = _detector(meter, cell, network, units)
     step, row = units.step or 1.0, network.cells.loc[detector]
-    most = float(meter.most) if meter.most is not None else float(network.cells.Q[cell]) * HOUR / step
+    most = float(meter.most) if meter.most is not None else network.capacities[cell] * HOUR / step
     wanted = float(meter.occupancy) if meter.occupancy is not None else critical(row)
     if not 0 < wanted < 100:
         raise Problem(f"{place}.occupancy: must be above 0 and below 100 % of the jam density")
@@ -113,7 +110,7 @@ def _detector(meter: Meter, cell: str, network: Network, units: Units) -> str:
     ways = [(down, way["kind"]) for _, down, way in network.graph.out_edges(cell, data=True)]
     if len(ways) != 1 or ways[0][1] != "merge" or network.kinds[ways[0][0]] != "road":
         raise Problem(f"{meter.place}.ramp: {meter.ramp} leads into no merge with a road; say road and at of the detector")
-    return ways[0][0]
+    return str(ways[0][0])
 
 
 @dataclass
@@ -148,7 +145,7 @@ class Metering:
     """The network so far: the limits that were set, and the moment that was reached."""
 
     def __init__(self, built: Built, gauges: Sequence[Gauge], runner: Runner, kept: Path | None = None) -> None:
-        self.own, self.network, self.step = built.text.encode(), built.network, built.units.step or 1.0
+        self.own, self.network, self.step = built.network.content, built.network, built.units.step or 1.0
         self.built, self.gauges, self.runner, self.kept = built, gauges, runner, kept
         self.times = intervals(built, gauges)
         odd = next((gauge for gauge in gauges if gauge.meter.interval != gauges[0].meter.interval), None)
@@ -159,8 +156,8 @@ class Metering:
         if twice:
             raise Problem(f"{twice.meter.place}.ramp: {twice.meter.ramp} has a meter already")
         self.plan: Plan = plan_of(self.network)
-        self.places = {name: place for place, name in enumerate(self.network.cells.index)}
-        self.limits: list[str] = []
+        self.places = {name: place for place, name in enumerate(self.network.kinds)}
+        self.limits: list[Record] = []
         self.rows: list[tuple[int, str, float, float]] = []
         self.seen: dict[str, float] = {}
         self.moment: Moment | None = None
@@ -169,9 +166,9 @@ class Metering:
         self.mark = checksum(self.own + repr(list(gauges)).encode())
 
     @property
-    def content(self) -> bytes:
-        """The network's bytes with the limits that were set."""
-        return with_records(self.own, self.limits)
+    def limited(self) -> Network:
+        """The network with the limits that were set."""
+        return self.network.with_more(self.limits)
 
     def run(self, done: Callable[[], object] | None = None) -> Metered:
         """Goes through all intervals, from the one on that was reached by an earlier call."""
@@ -188,7 +185,7 @@ class Metering:
         assert self.moment is not None  # there is an interval
         rates = pandas.DataFrame(self.rows, columns=["step", "ramp", "occupancy", "rate"])
         units = replace(self.built.units, title=f"{self.built.units.title}, metered")
-        return Metered(replace(self.built, text=self.content.decode(), units=units), rates, self.moment)
+        return Metered(replace(self.built, network=self.limited, units=units), rates, self.moment)
 
     def _interval(self, time: int, until: int) -> None:
         """Sets the rates of an interval, and goes to its end."""
@@ -204,7 +201,7 @@ class Metering:
     def _state(self) -> str:
         """What was reached, as text."""
         assert self.moment is not None
-        return state_text(self.mark, self.moment, reached=self.reached, limits=self.limits, rows=self.rows, seen=self.seen,
+        return state_text(self.mark, self.moment, reached=self.reached, limits=[one.text for one in self.limits], rows=self.rows, seen=self.seen,
                           rates=[gauge.rate for gauge in self.gauges])
 
     def _take_up(self) -> None:
@@ -212,11 +209,12 @@ class Metering:
         state = kept_state(self.kept, self.mark)
         if state is None:
             return
-        self.reached, self.limits, self.seen = state["reached"], state["limits"], state["seen"]
+        self.reached, self.seen = state["reached"], state["seen"]
+        self.limits = [record_of(text) for text in state["limits"]]
         self.rows = [(step, ramp, occupancy, rate) for step, ramp, occupancy, rate in state["rows"]]
         for gauge, rate in zip(self.gauges, state["rates"]):
             gauge.rate = rate
-        self.moment = state["moment"].of(self.content)
+        self.moment = state["moment"].of(self.limited.content)
 
     def _set(self, gauge: Gauge, time: int, until: int, occupancy: float | None) -> None:
         """Sets the rate of a meter for an interval."""
@@ -225,20 +223,20 @@ class Metering:
         self.limits += self._records(gauge, time, until)
         self.rows.append((time, gauge.meter.ramp, float("nan") if occupancy is None else occupancy, gauge.rate))
 
-    def _records(self, gauge: Gauge, time: int, until: int) -> Iterator[str]:
+    def _records(self, gauge: Gauge, time: int, until: int) -> Iterator[Record]:
         """The limits of an interval: the rate, or what the plan has itself where that is less."""
         parts = rounded_parts(Fraction(gauge.rate * self.step / HOUR))
         own = last_of(self.plan.limits.get(gauge.cell, []), self.plan.capacity[gauge.cell], until)[time:]
         place = time
         for capacity, same in groupby(own.tolist()):
             end = place + len(list(same))
-            yield record_text("limit", gauge.cell, place, end, min(parts, capacity))
+            yield record("limit", gauge.cell, place, end, min(parts, capacity))
             place = end
 
     def _go_on(self, moment: Moment | None, until: int) -> Moment:
         """The moment at a step, of the network with the limits that were set."""
-        return self.runner.moment(self.content, until) if moment is None else \
-            self.runner.later(moment.of(self.content), until)
+        content = self.limited.content
+        return self.runner.moment(content, until) if moment is None else self.runner.later(moment.of(content), until)
 
     def _occupancy(self, cell: str, before: Moment | None, now: Moment, steps: int) -> float:
         """The mean occupancy of a cell over so many steps, in per cent of its room.

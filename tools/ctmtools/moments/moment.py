@@ -1,13 +1,16 @@
-"""A saved moment of a run, as `ctm save` writes it and docs/FORMAT.md has it."""
+"""A saved moment of a run, as `ctm save` writes it and docs/FORMAT.md has it, and the file that keeps how far a run has come."""
 
 from __future__ import annotations
 
+import json
 import re
 from collections.abc import Sequence
 from dataclasses import dataclass, replace
-from typing import NamedTuple
+from pathlib import Path
+from typing import Any, NamedTuple
 
-from ..network_file.network import read_bytes
+from ..files.reading import read_bytes
+from ..files.seals import broken, is_sealed, sealed, unsealed_text
 from ..problem import Problem
 
 SUFFIX = ".saved"
@@ -54,8 +57,9 @@ class Moment:
 
 
 def read_moment(path: str) -> Moment:
-    """The saved moment in a file."""
-    return moment_of(read_bytes(path), path)
+    """The saved moment in a file, which `ctm save` wrote or, with a seal, `ctm-tools run --checkpoint`."""
+    content = read_bytes(path)
+    return moment_of(unsealed_text(content, path) or content, path)
 
 
 def moment_of(content: bytes, name: str) -> Moment:
@@ -71,3 +75,24 @@ def moment_of(content: bytes, name: str) -> Moment:
         raise Problem(f"{name}: this saved run is cut short or isn't one of ctm")
     return Moment([int(found[1]) for found in steps if found], [Row(*map(int, found.groups())) for found in rows if found],
                   network)
+
+
+def state_text(mark: str, moment: Moment, **terms: Any) -> str:
+    """The text of such a file: the mark of the network and what it is run with, the moment, and other terms."""
+    return json.dumps(sealed({"of": mark, **terms, "moment": moment.of(b"").text.decode()}))
+
+
+def kept_state(path: Path | None, mark: str) -> dict[str, Any] | None:
+    """What an earlier call of the same mark has kept in a file, with its moment read; None where there is nothing of it.
+
+    A file that was changed since is refused.
+    """
+    try:
+        state = json.loads(path.read_text("utf-8")) if path and path.exists() else None
+    except (OSError, ValueError, RecursionError):
+        return None
+    if not isinstance(state, dict) or state.get("of") != mark:
+        return None
+    if not is_sealed(state):
+        raise broken(str(path), "what is kept of the run", "take it away, and the run begins anew")
+    return {**state, "moment": moment_of(state["moment"].encode(), str(path))}

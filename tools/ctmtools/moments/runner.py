@@ -9,9 +9,9 @@ from __future__ import annotations
 from collections.abc import Sequence
 from dataclasses import dataclass
 
-from ..network_file.editing import with_steps
+from ..network_file.records import with_steps
 from ..problem import Problem
-from ..program import News, ask, in_words, run_words, why
+from ..program.calls import News, ask, in_words, run_words, why
 from .moment import Moment, Row, moment_of
 
 REFUSED = "ctm: words refused"

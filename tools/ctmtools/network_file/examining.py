@@ -6,13 +6,13 @@ from collections.abc import Sequence
 from dataclasses import dataclass, field
 
 from ..problem import Problem
-from ..program import News, ask, why
-from ..checksums import check_network
+from ..program.calls import News, ask, why
 from ..units import Units, units_path
+from .checksums import check_network
 from .faults import Fault, first_fault
 from .kinds import NUMBERS
 from .network import clipped, network_of, fault_line
-from .records import Record, line_of, read_records, text_of_line
+from .records import FileRecord, line_of, read_records, text_of_line
 from .warnings import Warning, warnings_of
 
 MOST_SHOWN = 100  # letters of a line of the file
@@ -45,7 +45,7 @@ def examine(content: bytes, name: str, news: News | None = None, units: Units | 
     return Findings(answer.line, fault_line(content, records, fault), _shown(content, records, fault))
 
 
-def _shown(content: bytes, records: Sequence[Record], fault: Fault) -> str:
+def _shown(content: bytes, records: Sequence[FileRecord], fault: Fault) -> str:
     """The line of the file that the fault stands in, as far as it goes on a screen."""
     if fault.record > len(records):
         return ""

@@ -8,8 +8,8 @@ from dataclasses import dataclass, field
 from typing import Any
 
 from . import kinds
-from .kinds import KINDS, MOST_PARTS, Field
-from .records import Record
+from .kinds import KINDS, MOST_PARTS, Field, Record
+from .records import FileRecord
 
 NAME = re.compile(r"[A-Za-z0-9_.-]{1,32}")
 
@@ -56,27 +56,44 @@ class Draft:
     demands: list[tuple[int, int, int]] = field(default_factory=list)
 
 
-def first_fault(records: Sequence[Record]) -> Fault | None:
+def first_fault(records: Sequence[FileRecord]) -> Fault | None:
     """The first fault of a file's records, or None where there is none."""
-    draft = Draft()
+    return taken(records)[1]
+
+
+def taken(records: Sequence[FileRecord]) -> tuple[list[Record], Fault | None]:
+    """The records behind the first one up to the first fault, with what their fields hold, and that fault."""
+    draft, found = Draft(), list[Record]()
     try:
         _check_header(records, draft)
-        for record in records[1:]:
-            _check_record(record, draft)
+        found += (_checked(record, draft) for record in records[1:])
         _check_whole(len(records) + 1, draft)
+    except FaultFound as first:
+        return found, first.fault
+    return found, None
+
+
+def fault_of_made(form: int, records: Sequence[Record]) -> Fault | None:
+    """The first fault of a file of a format with these records behind the first one, or None where there is none."""
+    draft = Draft(form)
+    try:
+        for number, record in enumerate(records, 2):
+            _checked(FileRecord(number, 0, (record.kind, *record.values)), draft)
+        _check_whole(len(records) + 2, draft)
     except FaultFound as found:
         return found.fault
     return None
 
 
-def _check_header(records: Sequence[Record], draft: Draft) -> None:
+def _check_header(records: Sequence[FileRecord], draft: Draft) -> None:
     if not records or records[0].fields not in kinds.HEADERS:
         headers = kinds.or_text(f"`{','.join(header)}`" for header in kinds.HEADERS)
         raise FaultFound(1, "NoHeader", expected=f"{headers} and nothing more")
     draft.form = int(records[0].fields[1])
 
 
-def _check_record(record: Record, draft: Draft) -> None:
+def _checked(record: FileRecord, draft: Draft) -> Record:
+    """A record with what its fields hold, where it has no fault."""
     number, kind = record.number, record.kind
     known = kinds.kinds_of(draft.form)
     if kind not in known:
@@ -84,10 +101,12 @@ def _check_record(record: Record, draft: Draft) -> None:
     _check_count(record, draft)
     if kind == "steps" and draft.steps_record is not None:
         raise FaultFound(number, "Repeated", 0, "one record of steps alone", draft.steps_record)
-    _keep(record, _check_fields(record, draft), draft)
+    values = _check_fields(record, draft)
+    _keep(record, values, draft)
+    return Record(kind, tuple(values.values()), record.place)
 
 
-def _check_count(record: Record, draft: Draft) -> None:
+def _check_count(record: FileRecord, draft: Draft) -> None:
     """That a record has as many fields as its kind, and the file not too many records of that sort."""
     kind = KINDS[record.kind]
     if len(record.fields) != len(kind.fields) + 1:
@@ -99,7 +118,7 @@ def _check_count(record: Record, draft: Draft) -> None:
             raise FaultFound(record.number, "TooMany", expected=f"at most {kinds.MOST_RECORDS[draft.form]} {kind.sort}")
 
 
-def _check_fields(record: Record, draft: Draft) -> dict[str, Any]:
+def _check_fields(record: FileRecord, draft: Draft) -> dict[str, Any]:
     """The values of the fields by their names, each checked in turn: names as they are, numbers whole or in parts."""
     values: dict[str, Any] = {}
     for place, term in enumerate(KINDS[record.kind].fields, 1):
@@ -111,7 +130,7 @@ def _check_fields(record: Record, draft: Draft) -> dict[str, Any]:
     return values
 
 
-def _check_number(record: Record, place: int, term: Field, values: Mapping[str, Any]) -> int:
+def _check_number(record: FileRecord, place: int, term: Field, values: Mapping[str, Any]) -> int:
     value: int | None = term.value(record.fields[place])
     if value is None:
         raise FaultFound(record.number, "BadNumber", place, term.expected)
@@ -120,7 +139,7 @@ def _check_number(record: Record, place: int, term: Field, values: Mapping[str, 
     return value
 
 
-def _check_name(record: Record, place: int, term: Field, draft: Draft, values: Mapping[str, Any]) -> None:
+def _check_name(record: FileRecord, place: int, term: Field, draft: Draft, values: Mapping[str, Any]) -> None:
     """What FORMAT.md asks of a field that names a cell, in its order."""
     number, text = record.number, record.fields[place]
     if term.sort == "new":
@@ -145,7 +164,7 @@ def _check_name(record: Record, place: int, term: Field, draft: Draft, values: M
         raise FaultFound(number, code, place, term.expected, earlier or number)
 
 
-def _keep(record: Record, values: Mapping[str, Any], draft: Draft) -> None:
+def _keep(record: FileRecord, values: Mapping[str, Any], draft: Draft) -> None:
     """Notes in the draft what a record without a fault gives."""
     kind, number = record.kind, record.number
     if kind == "steps":

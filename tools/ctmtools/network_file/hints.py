@@ -9,17 +9,17 @@ from collections.abc import Callable, Sequence
 from . import kinds
 from .faults import Fault
 from .kinds import HEADERS, KINDS, Field
-from .records import Record, line_of
+from .records import FileRecord, line_of
 
 FORMS = "".join(form for _, form in kinds.HEADERS)
 WRITTEN = kinds.or_text(",".join(header) for header in kinds.HEADERS)  # what the first record may be
 DECIMAL_COMMA = re.compile(r"[0-9]+,[0-9]+")
 
 # Makes a hint of the file's bytes, its records, the one with the fault, and the fault.
-Hint = Callable[[bytes, Sequence[Record], Record, Fault], str]
+Hint = Callable[[bytes, Sequence[FileRecord], FileRecord, Fault], str]
 
 
-def hint_of(content: bytes, records: Sequence[Record], fault: Fault) -> str:
+def hint_of(content: bytes, records: Sequence[FileRecord], fault: Fault) -> str:
     """A hint on a fault in one sentence or two, or an empty text where there is none."""
     if fault.code == "NoHeader":
         return _header_hint(content, records)
@@ -34,25 +34,25 @@ def hint_of(content: bytes, records: Sequence[Record], fault: Fault) -> str:
     return hint(content, records, record, fault) if hint else ""
 
 
-def _value(record: Record, fault: Fault) -> str:
+def _value(record: FileRecord, fault: Fault) -> str:
     """What stands in the field that a fault is of."""
     assert fault.place is not None  # such a fault is of one field
     return record.fields[fault.place]
 
 
-def _term(record: Record, fault: Fault) -> Field:
+def _term(record: FileRecord, fault: Fault) -> Field:
     """What the format has as the field that a fault is of."""
     assert fault.place is not None  # such a fault is of one field
     return KINDS[record.kind].fields[fault.place - 1]
 
 
-def _earlier(records: Sequence[Record], fault: Fault) -> Record:
+def _earlier(records: Sequence[FileRecord], fault: Fault) -> FileRecord:
     """The earlier record that a fault comes from."""
     assert fault.earlier is not None  # such a fault comes from one
     return records[fault.earlier - 1]
 
 
-def _header_hint(content: bytes, records: Sequence[Record]) -> str:
+def _header_hint(content: bytes, records: Sequence[FileRecord]) -> str:
     if not content.strip():
         return "The file is empty."
     if content.startswith(b"PK\x03\x04"):
@@ -95,7 +95,7 @@ def _looks_like_names(fields: Sequence[str]) -> bool:
     return len(fields) > 1 and all(re.fullmatch(r"[A-Za-z_ /()-]+", field) for field in fields)
 
 
-def _kind_hint(content: bytes, records: Sequence[Record], record: Record, fault: Fault) -> str:
+def _kind_hint(content: bytes, records: Sequence[FileRecord], record: FileRecord, fault: Fault) -> str:
     form = int(records[0].fields[1])
     kind = record.kind
     joined = ",".join(record.fields)
@@ -122,7 +122,7 @@ def _kind_hint(content: bytes, records: Sequence[Record], record: Record, fault:
     return ""
 
 
-def _count_hint(content: bytes, records: Sequence[Record], record: Record, fault: Fault) -> str:
+def _count_hint(content: bytes, records: Sequence[FileRecord], record: FileRecord, fault: Fault) -> str:
     wanted = len(KINDS[record.kind].fields) + 1
     fields = record.fields
     if len(fields) > wanted:
@@ -143,7 +143,7 @@ def _count_hint(content: bytes, records: Sequence[Record], record: Record, fault
     return f"Missing at the end: {', '.join(missing)}." if missing else ""
 
 
-def _decimal_comma_at(record: Record, surplus: int) -> str:
+def _decimal_comma_at(record: FileRecord, surplus: int) -> str:
     """Two fields of digits that make one number with a decimal comma, where joining such pairs mends the count."""
     sorts = [term.sort for term in KINDS[record.kind].fields]
     pairs = []
@@ -158,7 +158,7 @@ def _decimal_comma_at(record: Record, surplus: int) -> str:
     return " and ".join(pairs) if pairs and len(pairs) == surplus else ""
 
 
-def _name_hint(content: bytes, records: Sequence[Record], record: Record, fault: Fault) -> str:
+def _name_hint(content: bytes, records: Sequence[FileRecord], record: FileRecord, fault: Fault) -> str:
     text = _value(record, fault)
     if not text:
         return "The name is empty."
@@ -170,7 +170,7 @@ def _name_hint(content: bytes, records: Sequence[Record], record: Record, fault:
     return f"{better} would do." if better.strip("_") else ""
 
 
-def _number_hint(content: bytes, records: Sequence[Record], record: Record, fault: Fault) -> str:
+def _number_hint(content: bytes, records: Sequence[FileRecord], record: FileRecord, fault: Fault) -> str:
     text = _value(record, fault)
     sort = _term(record, fault).sort
     if not text:
@@ -208,7 +208,7 @@ def _number_hint(content: bytes, records: Sequence[Record], record: Record, faul
     return ""
 
 
-def _range_hint(content: bytes, records: Sequence[Record], record: Record, fault: Fault) -> str:
+def _range_hint(content: bytes, records: Sequence[FileRecord], record: FileRecord, fault: Fault) -> str:
     name = _term(record, fault).name
     if record.kind == "road" and name == "B":
         return "A/B is the speed of waves by the free-flow speed, at most 1; are A and B exchanged?"
@@ -228,7 +228,7 @@ def _range_hint(content: bytes, records: Sequence[Record], record: Record, fault
     return ""
 
 
-def _repeated_hint(content: bytes, records: Sequence[Record], record: Record, fault: Fault) -> str:
+def _repeated_hint(content: bytes, records: Sequence[FileRecord], record: FileRecord, fault: Fault) -> str:
     line = line_of(content, _earlier(records, fault).place)
     if record.kind == "steps":
         return f"Line {line} has {','.join(_earlier(records, fault).fields)}."
@@ -237,7 +237,7 @@ def _repeated_hint(content: bytes, records: Sequence[Record], record: Record, fa
     return f"The {what} of {name} stands in line {line}." if what else f"{name} stands in line {line} too."
 
 
-def _unknown_hint(content: bytes, records: Sequence[Record], record: Record, fault: Fault) -> str:
+def _unknown_hint(content: bytes, records: Sequence[FileRecord], record: FileRecord, fault: Fault) -> str:
     name = _value(record, fault)
     later = next((other for other in records[fault.record:]
                   if other.kind in kinds.CELLS and len(other.fields) > 1 and other.fields[1] == name), None)
@@ -270,7 +270,7 @@ def _without_zeros(name: str) -> str:
     return re.sub(r"0+(?=[0-9])", "", name.lower())
 
 
-def _wrong_kind_hint(content: bytes, records: Sequence[Record], record: Record, fault: Fault) -> str:
+def _wrong_kind_hint(content: bytes, records: Sequence[FileRecord], record: FileRecord, fault: Fault) -> str:
     name = _value(record, fault)
     kind = _earlier(records, fault).kind
     line = line_of(content, _earlier(records, fault).place)
@@ -281,7 +281,7 @@ def _wrong_kind_hint(content: bytes, records: Sequence[Record], record: Record, 
     return f"{name} is {'an exit' if kind == 'exit' else 'a ' + kind} (line {line}); {why}."
 
 
-def _taken_hint(content: bytes, records: Sequence[Record], record: Record, fault: Fault) -> str:
+def _taken_hint(content: bytes, records: Sequence[FileRecord], record: FileRecord, fault: Fault) -> str:
     name = _value(record, fault)
     way = "into" if fault.code == "InTaken" else "out of"
     joint = "A merge joins two cells into one." if fault.code == "InTaken" else "A diverge parts one cell into two."
@@ -294,7 +294,7 @@ def _taken_hint(content: bytes, records: Sequence[Record], record: Record, fault
     return f"{','.join(other.fields)} in line {line} leads {way} {name} already. {joint}"
 
 
-def _whole_hint(records: Sequence[Record], fault: Fault) -> str:
+def _whole_hint(records: Sequence[FileRecord], fault: Fault) -> str:
     if fault.code == "TooMuch":
         return "A demand is vehicles in each step; is one written in vehicles per hour?"
     if fault.code == "NoSteps":

@@ -3,10 +3,11 @@
 from __future__ import annotations
 
 from collections.abc import Iterable, Mapping
-from dataclasses import dataclass
+from dataclasses import dataclass, field
+from functools import cached_property, lru_cache
 from typing import Any
 
-from ..amounts import PARTS, amount_text, parts_of, whole_of
+from ..texts.amounts import PARTS, amount_text, parts_of, whole_of
 
 MOST_PARTS = 10_000_000 * PARTS  # vehicles of a network
 NAME_RULE = "1 to 32 letters, digits, `_`, `-` or `.`"
@@ -21,7 +22,7 @@ class Edge:
 
     def of(self, earlier: Mapping[str, Any]) -> int:
         """The value, by those of the fields before."""
-        return self.number + (earlier[self.field] if self.field else 0)
+        return self.number + int(earlier[self.field] if self.field else 0)
 
     def __str__(self) -> str:
         if not self.field:
@@ -49,8 +50,13 @@ class Field:
             return "vehicles in a step"
         return self.name.replace("cell upstream", "up").replace("cell downstream", "down")
 
-    def value(self, text: str) -> Any:
-        """The value that a text spells: a name as it is, a whole number, an amount in parts; None where it spells none."""
+    def value(self, text: str | int) -> Any:
+        """The value that a text spells: a name as it is, a whole number, an amount in parts; None where it spells none.
+
+        A number is its own value, as of a record that is made.
+        """
+        if isinstance(text, int):
+            return text
         return whole_of(text) if self.sort == "whole" else parts_of(text) if self.sort == "amount" else text
 
     def text(self, value: str | int) -> str:
@@ -66,14 +72,10 @@ class Kind:
     fields: tuple[Field, ...]
     form: int = 1
 
-    @property
+    @cached_property
     def names(self) -> list[str]:
         """The names of its fields."""
         return [field.name for field in self.fields]
-
-    def values(self, texts: tuple[str, ...]) -> dict[str, Any]:
-        """What the fields of a record without a fault hold, by their names; `texts` are those behind the kind."""
-        return {field.name: field.value(text) for field, text in zip(self.fields, texts)}
 
 
 def _edge(value: int | str) -> Edge:
@@ -138,14 +140,53 @@ NUMBERS = {name: number for number, name in CODES.items()}
 HEADERS = tuple(("ctm", str(form)) for form in MOST_RECORDS)  # of each format the first record
 
 
+@lru_cache
 def kinds_of(form: int) -> tuple[str, ...]:
     """The kinds of records that a file of a format may have."""
     return tuple(name for name, kind in KINDS.items() if kind.form <= form)
 
 
-def record_text(kind: str, *values: str | int) -> str:
-    """A record as the file has it, of what its fields hold: names, whole numbers, and amounts in parts."""
-    return ",".join([kind, *(field.text(value) for field, value in zip(KINDS[kind].fields, values, strict=True))])
+@dataclass(frozen=True)
+class Record:
+    """A record without a fault: its kind, and what its fields hold: names, whole numbers, and amounts in parts.
+
+    `place` is that of its first byte in the file that it was read from.
+    """
+
+    kind: str
+    values: tuple[Any, ...]
+    place: int | None = field(default=None, compare=False)
+
+    @property
+    def sort(self) -> str:
+        """What it is counted among."""
+        return KINDS[self.kind].sort
+
+    @property
+    def named(self) -> dict[str, Any]:
+        """What its fields hold, by their names."""
+        return dict(zip(KINDS[self.kind].names, self.values))
+
+    @cached_property
+    def text(self) -> str:
+        """The record as a file has it."""
+        return ",".join([self.kind, *(term.text(value) for term, value in zip(KINDS[self.kind].fields, self.values, strict=True))])
+
+
+def record(kind: str, *values: str | int) -> Record:
+    """A record that is made, of what its fields hold."""
+    return Record(kind, values)
+
+
+def record_of(text: str) -> Record:
+    """The record that a line of these tools spells."""
+    kind, *texts = text.split(",")
+    return Record(kind, tuple(term.value(one) for term, one in zip(KINDS[kind].fields, texts, strict=True)))
+
+
+def file_text(form: int, records: Iterable[Record]) -> str:
+    """The text of a file of a format with these records, without comments."""
+    return "".join(f"{line}\n" for line in (f"ctm,{form}", *(one.text for one in records)))
 
 
 def headings(*kinds: str) -> str:

@@ -7,7 +7,7 @@ from dataclasses import dataclass
 
 import numpy
 
-Numbers = numpy.ndarray
+from ..arrays import Numbers, Wholes
 
 
 @dataclass(frozen=True)
@@ -21,16 +21,18 @@ class Pace:
     parts: Numbers
     cells: Numbers
 
-    def driven(self, moments: Numbers) -> Numbers:
+    def driven(self, moments: Numbers | Wholes) -> Numbers:
         """The cells that are driven until some moments."""
         within = numpy.interp(moments, self.steps, self.cells)
-        return within + numpy.maximum(moments - self.steps[-1], 0) * self.parts[-1]
+        driven: Numbers = within + numpy.maximum(moments - self.steps[-1], 0) * self.parts[-1]
+        return driven
 
     def left(self, entered: Numbers) -> Numbers:
         """When those leave the cell who enter it at some moments, at free flow."""
         wanted = self.driven(entered) + 1
         within = numpy.interp(wanted, self.cells, self.steps)
-        return within + numpy.maximum(wanted - self.cells[-1], 0) / self.parts[-1]
+        left: Numbers = within + numpy.maximum(wanted - self.cells[-1], 0) / self.parts[-1]
+        return left
 
     def slower(self) -> Iterator[tuple[int, int, float]]:
         """The steps from and to which a speed limit holds, each with its part of the road's own speed."""
@@ -38,9 +40,10 @@ class Pace:
             if part < 1:
                 yield int(begin), int(end), float(part)
 
-    def mean(self, moments: Numbers) -> Numbers:
+    def mean(self, moments: Numbers | Wholes) -> Numbers:
         """The mean part of the road's own speed from each moment to the next."""
-        return numpy.diff(self.driven(moments)) / numpy.diff(moments)
+        part: Numbers = numpy.diff(self.driven(moments)) / numpy.diff(moments)
+        return part
 
 
 def pace_of(speeds: Sequence[tuple[int, int, float]], steps: int) -> Pace:

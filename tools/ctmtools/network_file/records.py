@@ -4,10 +4,13 @@ from __future__ import annotations
 
 import re
 from dataclasses import dataclass
+from functools import lru_cache
+
+from .kinds import record
 
 BYTE_ORDER_MARK = b"\xef\xbb\xbf"
 # What may stand at the beginning of a record and gives none: line ends, and comments to their line feed.
-SKIPPED = re.compile(rb"(?:[\r\n]+|#[^\n]*\n)*")
+SKIPPED = re.compile(rb"(?:[\r\n]|#[^\n]*\n)*")
 UNFINISHED_COMMENT = re.compile(rb"#[^\n]*\Z")
 PLAIN_RECORD = re.compile(rb'[^"\r\n]*(?=[\r\n]|\Z)')
 FIELD = re.compile(rb'"([^"]*(?:""[^"]*)*)(?:"|\Z)([^,\r\n]*)|([^,\r\n]*)')
@@ -15,8 +18,8 @@ LINE_END = re.compile(rb"\r\n|\n|\r")
 
 
 @dataclass(frozen=True)
-class Record:
-    """A record: its number from 1, the place of its first byte, and its fields as text (bytes beyond ASCII escaped)."""
+class FileRecord:
+    """A record as a file has it: its number from 1, the place of its first byte, and its fields as text (bytes beyond ASCII escaped)."""
 
     number: int
     place: int
@@ -28,9 +31,9 @@ class Record:
         return self.fields[0]
 
 
-def read_records(content: bytes) -> list[Record]:
+def read_records(content: bytes) -> list[FileRecord]:
     """The records of a file's bytes, in order."""
-    found: list[Record] = []
+    found: list[FileRecord] = []
     place = len(BYTE_ORDER_MARK) if content.startswith(BYTE_ORDER_MARK) else 0
     while True:
         skipped = SKIPPED.match(content, place)
@@ -39,10 +42,10 @@ def read_records(content: bytes) -> list[Record]:
         if place >= len(content):
             return found
         if UNFINISHED_COMMENT.match(content, place):
-            found.append(Record(len(found) + 1, place, ("",)))
+            found.append(FileRecord(len(found) + 1, place, ("",)))
             return found
         fields, end = _record_at(content, place)
-        found.append(Record(len(found) + 1, place, fields))
+        found.append(FileRecord(len(found) + 1, place, fields))
         place = end
 
 
@@ -64,7 +67,7 @@ def _record_at(content: bytes, place: int) -> tuple[tuple[str, ...], int]:
         place += 1
 
 
-def end_of(content: bytes, record: Record) -> int:
+def end_of(content: bytes, record: FileRecord) -> int:
     """The place behind the last byte of a record of a file's bytes."""
     return _record_at(content, record.place)[1]
 
@@ -83,3 +86,15 @@ def text_of_line(content: bytes, line: int) -> str:
     """The text of a line, counted from 1, without its end."""
     lines = LINE_END.split(content)
     return lines[line - 1].decode("utf-8", "backslashreplace") if line <= len(lines) else ""
+
+
+def with_steps(content: bytes, steps: int) -> bytes:
+    """The bytes of a network without a fault, with another number of steps."""
+    begin, end = _place_of_steps(content)
+    return content[:begin] + record("steps", steps).text.encode() + content[end:]
+
+
+@lru_cache(maxsize=2)
+def _place_of_steps(content: bytes) -> tuple[int, int]:
+    steps = next(one for one in read_records(content) if one.kind == "steps")
+    return steps.place, end_of(content, steps)

@@ -2,18 +2,17 @@
 
 from __future__ import annotations
 
-from collections.abc import Collection, Iterator, Sequence
+from collections.abc import Collection, Iterable, Iterator, Mapping, Sequence
 from dataclasses import dataclass
 
-import networkx
-import pandas
-
-from ..amounts import PARTS
+from ..texts.amounts import PARTS
 from ..units import Units
+from .kinds import Record
 from .naming import Naming
 from .network import Network
 
 FAR_ABOVE = 2  # a demand is far above a gate's capacity from this many times it on
+RANGED = ("demand", "limit", "turn", "speed")  # the kinds of records that are of some steps
 SUPPOSED_STEP = 10  # seconds, in a warning's example where the step isn't known
 MOST_OF_A_KIND = 5  # of each kind of warning so many are told, and the others counted
 
@@ -55,14 +54,14 @@ def shortened(warnings: Sequence[Warning], lines: bool = True) -> list[str]:
 
 
 def _line(network: Network, cell: str) -> int:
-    return network.line(int(network.cells.record[cell]))
+    return network.line(network.of_cells[cell]["record"])
 
 
 def _dead_ends(network: Network, naming: Naming) -> Iterator[Warning]:
     """Roads and gates that nothing leads out of."""
     names = list(network.kinds)
     for number, (cell, kind) in enumerate(network.kinds.items()):
-        if kind == "exit" or network.graph.out_degree(cell):
+        if kind == "exit" or network.downs[cell]:
             continue
         place = naming.place(cell)
         if place:
@@ -80,45 +79,43 @@ def _follower(network: Network, names: Sequence[str], number: int) -> str | None
     """The next cell in the file, where nothing leads into it: a link to it may be forgotten."""
     if number + 1 < len(names):
         following = names[number + 1]
-        if network.kinds[following] != "gate" and not network.graph.in_degree(following):
+        if network.kinds[following] != "gate" and not network.ups[following]:
             return following
     return None
 
 
 def _unreached(network: Network, naming: Naming) -> Iterator[Warning]:
     """Roads and exits that no vehicle comes to; of cells that lead to each other the first alone is told."""
-    demands, cells = network.demands, network.cells
-    reached = set(demands.gate[(demands["amount"] > 0) & (demands["from"] < network.steps)])
-    reached |= set(cells.index[cells["first"] > 0])
-    reached |= {cell for cell, kind in network.kinds.items() if kind == "gate"}
-    _spread(network.graph, reached)
+    reached = {gate for _, (gate, begin, _, amount) in network.numbered("demand") if amount > 0 and begin < network.steps}
+    reached |= {cell for cell, row in network.of_cells.items() if row["kind"] == "gate" or row["first"] > 0}
+    _spread(network.downs, reached)
     told = set(reached)
-    first = [cell for cell in network.kinds if all(up in reached for up in network.graph.predecessors(cell))]
+    first = [cell for cell in network.kinds if all(up in reached for up in network.ups[cell])]
     for cell in [*first, *network.kinds]:  # those that begin a chain, and then those of rings
         if cell in told:
             continue
         behind = {cell}
-        _spread(network.graph, behind, told)
+        _spread(network.downs, behind, told)
         told |= behind
         more = f", nor {len(behind) - 1} more behind it" if len(behind) > 1 else ""
         yield Warning("cells that nothing reaches", _line(network, cell),
                       f"no vehicle ever reaches {naming.cell(cell)}{more}: no gate leads to it")
 
 
-def _spread(graph: networkx.DiGraph, cells: set[str], barred: Collection[str] = frozenset()) -> None:
+def _spread(downs: Mapping[str, Iterable[str]], cells: set[str], barred: Collection[str] = frozenset()) -> None:
     """Adds to a set of cells all that can be reached from them, but for those that are barred."""
     waiting = list(cells)
     while waiting:
-        for down in graph.successors(waiting.pop()):
+        for down in downs[waiting.pop()]:
             if down not in cells and down not in barred:
                 cells.add(down)
                 waiting.append(down)
 
 
 def _gates_without_demand(network: Network, naming: Naming) -> Iterator[Warning]:
-    fed = set(network.demands.gate) | set(network.cells.index[network.cells["first"] > 0])
-    for cell, kind in network.kinds.items():
-        if kind == "gate" and cell not in fed:
+    fed = {gate for _, (gate, *_) in network.numbered("demand")}
+    for cell, row in network.of_cells.items():
+        if row["kind"] == "gate" and cell not in fed and not row["first"]:
             yield Warning("gates without demand", _line(network, cell), f"the gate {cell} has no demand: nobody comes")
 
 
@@ -127,83 +124,81 @@ def _high_demands(network: Network, naming: Naming) -> Iterator[Warning]:
     step = naming.units.step
     seconds = step or SUPPOSED_STEP
     told = f"with {'the' if step else 'a'} step of {seconds:g} s"
-    most = network.cells.Q.astype(float).to_dict()
-    for row in network.limits.itertuples():
-        most[row.cell] = max(most[row.cell], row.Q)
-    for row in network.demands[network.demands.amount > FAR_ABOVE * network.demands.gate.map(most)].itertuples():
+    most = dict(network.capacities)
+    for _, (cell, _, _, capacity) in network.numbered("limit"):
+        most[cell] = max(most[cell], capacity)
+    for number, (gate, begin, _, amount) in network.numbered("demand"):
+        if amount <= FAR_ABOVE * most[gate]:
+            continue
         if naming.of_study:
-            text = (f"the demand of gate {row.gate} from {naming.time(row[2])} on, {naming.flow(row.amount)}, is far "
-                    f"above its capacity of {naming.flow(most[row.gate])}")
+            text = (f"the demand of gate {gate} from {naming.time(begin)} on, {naming.flow(amount)}, is far "
+                    f"above its capacity of {naming.flow(most[gate])}")
         else:
-            text = (f"the demand of {row.amount:g} in a step is far above the gate {row.gate}'s Q of "
-                    f"{most[row.gate]:g}. A demand is vehicles in a step; {told}, {row.amount:g} vehicles/h are "
-                    f"{row.amount * seconds / 3600:.6g}.")
-        yield Warning("demands far above a gate's capacity", network.line(row.record), text)
+            text = (f"the demand of {amount:g} in a step is far above the gate {gate}'s Q of "
+                    f"{most[gate]:g}. A demand is vehicles in a step; {told}, {amount:g} vehicles/h are "
+                    f"{amount * seconds / 3600:.6g}.")
+        yield Warning("demands far above a gate's capacity", network.line(number), text)
 
 
 def _late(network: Network, naming: Naming) -> Iterator[Warning]:
-    for sort, frame in (("demand", network.demands), ("limit", network.limits), ("turn", network.turns), ("speed", network.speeds)):
-        for row in frame[frame["from"] >= network.steps].itertuples():
-            yield Warning("ranges behind the last step", network.line(row.record),
-                          f"this {sort} begins behind the last step, {network.steps - 1}, so it does nothing")
+    for kind in RANGED:
+        for number, (_, begin, *_) in network.numbered(kind):
+            if begin >= network.steps:
+                yield Warning("ranges behind the last step", network.line(number),
+                              f"this {kind} begins behind the last step, {network.steps - 1}, so it does nothing")
 
 
 def _twice(network: Network, naming: Naming) -> Iterator[Warning]:
     """Records that stand twice; only those that the program accepts twice are left: demands, limits, turns and speeds."""
-    seen: dict[tuple[str, ...], int] = {}
-    for record in network.records[1:]:
-        if record.fields in seen:
+    seen: dict[Record, int] = {}
+    for number, record in enumerate(network.records, 2):
+        if record in seen:
             does = "their amounts add up" if record.kind == "demand" else "the second does nothing"
-            text = f"{','.join(record.fields)} stands in line {network.line(seen[record.fields])} too; {does}."
+            text = f"{record.text} stands in line {network.line(seen[record])} too; {does}."
             if naming.of_study:
-                begin = naming.time(int(record.fields[2]))
-                text = f"two {record.kind}s of {record.fields[1]} are the same from {begin} on; {does}"
-            yield Warning("records that stand twice", network.line(record.number), text)
+                cell, begin = record.values[:2]
+                text = f"two {record.kind}s of {cell} are the same from {naming.time(begin)} on; {does}"
+            yield Warning("records that stand twice", network.line(number), text)
         else:
-            seen[record.fields] = record.number
+            seen[record] = number
 
 
 def _overlapping(network: Network, naming: Naming) -> Iterator[Warning]:
     """Demands, limits, turns and speeds of one cell whose ranges overlap, but for those that stand twice."""
-    for sort, frame, does in (("demands", network.demands, "their amounts add up"),
-                              ("limits", network.limits, "the last one in the file holds there"),
-                              ("turns", network.turns, "the last one in the file holds there"),
-                              ("speeds", network.speeds, "the last one in the file holds there")):
-        for cell, begin, record, other in _overlaps(network, frame):
+    for kind in RANGED:
+        does = "their amounts add up" if kind == "demand" else "the last one in the file holds there"
+        for cell, begin, record, other in _overlaps(network, kind):
             where = "" if naming.of_study else f", with line {network.line(other)}"
-            yield Warning(f"{sort} that overlap", network.line(record),
-                          f"the {sort} of {cell} overlap from {naming.time(begin)} on{where}; {does}")
+            yield Warning(f"{kind}s that overlap", network.line(record),
+                          f"the {kind}s of {cell} overlap from {naming.time(begin)} on{where}; {does}")
 
 
-def _overlaps(network: Network, frame: pandas.DataFrame) -> Iterator[tuple[str, int, int, int]]:
+def _overlaps(network: Network, kind: str) -> Iterator[tuple[str, int, int, int]]:
     """Where ranges of a cell overlap: the cell, from which step, and the numbers of both records, the later first."""
-    # Of the cell's ranges so far the one that reaches farthest: its cell, end, record and fields.
-    last: tuple[str, int, int, tuple[str, ...]] | None = None
-    for row in frame.sort_values([frame.columns[0], "from"], kind="stable").itertuples(index=False):
-        cell, begin, end, record = row[0], row[1], row[2], row[-1]
-        fields = network.records[record - 1].fields
+    # Of the cell's ranges so far the one that reaches farthest: its cell, end, the record's number and the record.
+    last: tuple[str, int, int, Record] | None = None
+    for number, (cell, begin, end, *_) in sorted(network.numbered(kind), key=lambda one: one[1][:2]):
+        record = network.records[number - 2]
         same = last if last and last[0] == cell else None
-        if same and begin < same[1] and fields != same[3]:
-            yield cell, begin, max(record, same[2]), min(record, same[2])
+        if same and begin < same[1] and record != same[3]:
+            yield cell, begin, max(number, same[2]), min(number, same[2])
         if not same or end > same[1]:
-            last = cell, end, record, fields
+            last = cell, end, number, record
 
 
-def _lasting(cells: pandas.DataFrame) -> pandas.Series:
+def _lasting(network: Network) -> dict[str, float]:
     """The greatest lasting flow of each road, N·A/(A + B), in vehicles a step."""
-    roads = cells[cells.kind == "road"]
-    return roads.N.astype(float) * roads.A.astype(float) / (roads.A + roads.B).astype(float)
+    return {cell: row["N"] * row["A"] / (row["A"] + row["B"]) for cell, row in network.of_cells.items() if row["kind"] == "road"}
 
 
 def _short_of_capacity(network: Network, naming: Naming) -> Iterator[Warning]:
     """Roads whose greatest lasting flow is below Q; of a study's road the cells that are alike together."""
-    lasting = _lasting(network.cells)
-    most = network.cells.Q[lasting.index].astype(float)
     groups: dict[tuple[str, float, float], list[str]] = {}
-    for cell in lasting.index[most - lasting > (most / 1_000_000).clip(lower=1 / PARTS)]:
-        place = naming.place(cell)
-        road = place["road"] if place else cell
-        groups.setdefault((road, lasting[cell], most[cell]), []).append(cell)
+    for cell, flow in _lasting(network).items():
+        most = network.capacities[cell]
+        if most - flow > max(most / 1_000_000, 1 / PARTS):
+            place = naming.place(cell)
+            groups.setdefault((place["road"] if place else cell, flow, most), []).append(cell)
     for (road, flow, capacity), cells in groups.items():
         text = (f"the road {road} can carry N·A/(A + B) = {naming.flow(flow)} for long, which is below its Q of "
                 f"{capacity:g}")
@@ -215,21 +210,20 @@ def _short_of_capacity(network: Network, naming: Naming) -> Iterator[Warning]:
 
 def _high_limits(network: Network, naming: Naming) -> Iterator[Warning]:
     """Limits above what their road can carry for long."""
-    lasting = _lasting(network.cells)
-    for row in network.limits[network.limits.cell.isin(lasting.index)].itertuples():
-        if row.Q > max(lasting[row.cell] * (1 + 1e-6), network.cells.Q[row.cell]):
-            yield Warning("limits above what a road can carry for long", network.line(row.record),
-                          f"the limit of {row.cell} from {naming.time(row[2])} on, {naming.flow(row.Q)}, is above the "
-                          f"{naming.flow(lasting[row.cell])} that it can carry for long, N·A/(A + B)")
+    lasting = _lasting(network)
+    for number, (cell, begin, _, most) in network.numbered("limit"):
+        if cell in lasting and most > max(lasting[cell] * (1 + 1e-6), network.capacities[cell]):
+            yield Warning("limits above what a road can carry for long", network.line(number),
+                          f"the limit of {cell} from {naming.time(begin)} on, {naming.flow(most)}, is above the "
+                          f"{naming.flow(lasting[cell])} that it can carry for long, N·A/(A + B)")
 
 
 def _never_green(network: Network, naming: Naming) -> Iterator[Warning]:
     """Signals that are green in no step of the run."""
-    for row in network.signals.itertuples(index=False):
-        cell, cycle, offset, begin, end, record = row
+    for number, (cell, cycle, offset, begin, end) in network.numbered("signal"):
         steps = range(min(network.steps, cycle))
         if not any(begin <= (step + offset) % cycle < end for step in steps):
             whole = "the study" if naming.of_study else f"the run of {network.steps}"
-            yield Warning("signals that are never green", network.line(record),
+            yield Warning("signals that are never green", network.line(number),
                           f"the signal of {cell} is green in no step of the run: its cycle of {naming.lasting(cycle)} "
                           f"is longer than {whole}")

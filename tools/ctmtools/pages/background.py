@@ -2,6 +2,7 @@
 
 from __future__ import annotations
 
+import re
 from dataclasses import dataclass
 
 from ..problem import Problem
@@ -11,6 +12,8 @@ from .networks import Place
 
 STREETS = "https://tile.openstreetmap.org/{z}/{x}/{y}.png"
 CREDIT = "© OpenStreetMap contributors"
+BESIDE = "'self' file:"  # of tiles that stand beside the page
+ORIGIN = re.compile(r"((?:https?|file)://[\w.\[\]:-]*)/")
 MERCATOR = "EPSG:3857"  # the plane in which tiles lie
 
 
@@ -40,6 +43,14 @@ class Background:
         if report.units.crs:
             return report.units.crs, f"{report.name}: crs"
         raise Problem(f"{report.name}: where its roads lie on the earth isn't known; --crs names the system of their points")
+
+    @property
+    def origin(self) -> str:
+        """The server of the tiles, as a content policy names it."""
+        found = ORIGIN.match(self.tiles)
+        if not found and "://" in self.tiles:
+            raise Problem(f"--tiles: expected the address of a server, as {STREETS}, found {self.tiles}")
+        return found[1] if found else BESIDE
 
     def data(self) -> dict[str, str]:
         """The background for the page."""

@@ -1,24 +1,28 @@
-"""What a page shows of its reports, as the data that its script reads."""
+"""What a page shows of its reports, as the data that its script reads, and where it comes from."""
 
 from __future__ import annotations
 
+import datetime
+import subprocess
 from collections.abc import Sequence
+from importlib import import_module
 from pathlib import Path
 from typing import Any
 
 import numpy
 
 from ..problem import Problem
-from ..report.names import listed, names_of
-from ..report.summary import number_text
+from ..program.calls import TOP, of_the_package
+from ..report.comparability import names_of
+from ..report.measures import hour_of
 from ..report.queues import SLOW
 from ..report.reading import Report
+from ..report.summary import number_text
+from ..texts.text_table import listed
 from .background import Background
 from .draws import draws_of
-from .frames import Frames, bounds_of, steps_an_hour
-from .limits import speed_limits
-from .networks import is_measured, network_of, roads_of
-from .provenance import provenance
+from .frames import Frames, bounds_of
+from .networks import is_measured, network_of, roads_of, speed_limits
 from .tables import differing, greens_of, reports_of, table_of, unlike_lines
 from .ways import ways_of
 
@@ -47,7 +51,7 @@ def data_of(reports: Sequence[Report], background: Background | None = None, dra
         shown.append({"network": networks.index(network), "limits": speed_limits(report), **own.data()})
     return {"title": _title(reports), "subtitle": _subtitle(reports),
             "provenance": provenance(reports), "notes": _notes(reports, bounds), "names": names, "slow": SLOW,
-            "measured": measured, "hour": steps_an_hour(first), "units": _units(first, measured),
+            "measured": measured, "hour": hour_of(first), "units": _units(first, measured),
             "schematic": not first.units.points, "times": _labels(first, bounds), "clock": _clock(first, bounds),
             "networks": networks, "reports": shown, "opening": opening(frames),
             "tables": {"roads": table_of(reports), "cells": differing(reports, names), "told": unlike_lines(reports, names),
@@ -95,11 +99,11 @@ def _title(reports: Sequence[Report]) -> str:
 
 def _subtitle(reports: Sequence[Report]) -> str:
     """The time of the study, and the vehicles and the delay of a report that stands alone."""
-    units, total = reports[0].units, reports[0].total
+    units, total = reports[0].units, reports[0].sums
     time = f"{units.clock(0)} to {units.clock(reports[0].steps)}" if units.known else f"{reports[0].steps} steps"
     if len(reports) > 1:
         return time
-    return (f"{time}. {number_text(total.entered)} vehicles came, {number_text(total.left)} were served, {number_text(total.inside)} are still "
+    return (f"{time}. {number_text(total.entered)} vehicles entered, {number_text(total.left)} left, {number_text(total.inside)} are still "
             f"inside, delay {number_text(units.hours(total.delay))} {units.delay_unit}")
 
 
@@ -126,3 +130,32 @@ def _clock(report: Report, bounds: Sequence[int]) -> dict[str, Any]:
     """The bounds of the frames on the axes of time: seconds after midnight, or steps where these aren't known."""
     step, start = report.units.step, report.units.start or 0
     return {"known": step is not None, "bounds": [bound if step is None else start + bound * step for bound in bounds]}
+
+
+def provenance(reports: Sequence[Report]) -> str:
+    """A line on each report's study, its files and the day of its file, and on what made the page and when."""
+    return f"{'; '.join(map(_study, reports))}. Page made on {datetime.date.today().isoformat()} by {version()}."
+
+
+def version() -> str:
+    """The version and the commit of these tools, as `ctm --version` has them: of their repository, or of their package."""
+    built = of_the_package("BUILD")
+    if built:
+        return built.read_text("utf-8").partition("\n")[0]
+    try:
+        told = subprocess.run([TOP / "ctm", "--version"], capture_output=True, text=True, timeout=20, check=True)
+    except (OSError, subprocess.SubprocessError):
+        number = getattr(import_module("ctmtools"), "__version__", "")
+        return " ".join(filter(None, ["ctm-tools", number])) + ", outside of its repository and of a package"
+    return told.stdout.strip()
+
+
+def _study(report: Report) -> str:
+    path = Path(report.name)
+    network = f", network {Path(report.units.network.path).name}" if report.units.network.path else ""
+    written = f" of {_day(path)}" if path.is_file() else ""
+    return f"Study “{report.title}”{network}, report {path.name}{written}"
+
+
+def _day(path: Path) -> str:
+    return datetime.date.fromtimestamp(path.stat().st_mtime).isoformat()

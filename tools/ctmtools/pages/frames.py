@@ -1,4 +1,4 @@
-"""The frames of a page: the recorded steps between which means are shown, and the means of a report's cells over them."""
+"""The frames of a page: the recorded steps between which means are shown, and the measures of a report's cells over them."""
 
 from __future__ import annotations
 
@@ -9,7 +9,9 @@ from typing import Any
 
 import numpy
 
-from ..report.queues import standing
+from ..arrays import Flags, Numbers
+from ..report.measures import Measures, measured
+from ..report.queues import stands
 from ..report.reading import Report
 
 MOST_DATA = 3_200_000  # bytes of all reports together, which are a third more as text
@@ -36,27 +38,28 @@ class Frames:
     def __init__(self, report: Report, bounds: Sequence[int], measured: bool) -> None:
         self.report, self.bounds, self.measured = report, bounds, measured
 
-    def _means(self, values: numpy.ndarray) -> numpy.ndarray:
-        times, lasting = self.report.times, numpy.diff(self.report.times)[:, None]
-        means: numpy.ndarray = numpy.add.reduceat(values * lasting, numpy.searchsorted(times, self.bounds[:-1]), axis=0)
-        return means / numpy.diff(self.bounds)[:, None]
-
     @cached_property
-    def density(self) -> numpy.ndarray:
-        """The mean density in each frame."""
+    def _measures(self) -> Measures:
         units = self.report.units
         lengths = numpy.array([(units.length(cell) if self.measured else None) or 1.0 for cell in self.report.cells.index])
-        return self._means(self.report.held.to_numpy()) / lengths
+        return measured(self.report, self.bounds, lengths=lengths)
+
+    @property
+    def density(self) -> Numbers:
+        """The density in each frame."""
+        return self._measures.density
+
+    @property
+    def flow(self) -> Numbers:
+        """The flow out of each cell in each frame."""
+        return self._measures.flow
 
     @cached_property
-    def flow(self) -> numpy.ndarray:
-        """The mean flow out of each cell in each frame."""
-        return self._means(self.report.flow.to_numpy()) * steps_an_hour(self.report)
-
-    @cached_property
-    def queued(self) -> numpy.ndarray:
+    def queued(self) -> Flags:
         """Whether each cell stands in a queue for half of the frame or longer."""
-        return self._means(standing(self.report).to_numpy().astype(float)) >= 0.5
+        rows = numpy.searchsorted(self.report.times, self.bounds[:-1])
+        steps = numpy.add.reduceat(stands(self.report) * self.report.lasting, rows, axis=0)
+        return 2 * steps >= numpy.diff(self.bounds)[:, None]
 
     def data(self) -> dict[str, Any]:
         """The frames for the page: of each cell the most, and numbers of 16 bits in parts of it; queues as bits."""
@@ -64,12 +67,7 @@ class Frames:
         return {"density": _numbers(self.density), "flow": _numbers(self.flow), "queued": _text(bits)}
 
 
-def steps_an_hour(report: Report) -> float:
-    """What a vehicle in a step is in vehicles/h; 1 where the step isn't known."""
-    return 1.0 if report.units.step is None else 3600 / report.units.step
-
-
-def _numbers(rows: numpy.ndarray) -> dict[str, Any]:
+def _numbers(rows: Numbers) -> dict[str, Any]:
     most = rows.max(axis=0)
     parts = numpy.rint(rows.T / numpy.where(most > 0, most, 1)[:, None] * MOST)
     return {"most": [round(float(value), 6) for value in most], "text": _text(parts.astype("<u2").tobytes())}

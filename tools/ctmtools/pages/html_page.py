@@ -4,7 +4,9 @@ from __future__ import annotations
 
 import json
 import re
-from collections.abc import Sequence
+from base64 import b64encode
+from collections.abc import Iterable, Sequence
+from hashlib import sha256
 from html import escape
 from pathlib import Path
 
@@ -27,11 +29,26 @@ def page_of(reports: Sequence[Report], library: str | None = None, background: B
     `draws` is the folder of draws of a report's network, by default one that stands beside a report.
     """
     data = data_of(reports, background, draws)
-    parts = {"TITLE": escape(data["title"]), "STYLE": (HERE / "page.css").read_text(),
-             "LIBRARY": _within(library or _library()), "DATA": _within(json.dumps(data, separators=(",", ":"), allow_nan=False)),
-             "SCRIPT": _within("".join((HERE / f"{name}.js").read_text() for name in SCRIPTS))}
-    return re.sub("(?<=[> ])(TITLE|STYLE|LIBRARY|DATA|SCRIPT)(?=[<;])", lambda found: parts[found[1]],
-                  (HERE / "page.html").read_text())
+    spelled = json.dumps(data, separators=(",", ":"), allow_nan=False).replace("<", "\\u003c")
+    style, scripts = _read("page.css"), {"LIBRARY": _within(library or _library()), "DATA": f"const data = {spelled};",
+                                         "SCRIPT": _within("".join(_read(f"{name}.js") for name in SCRIPTS))}
+    parts: dict[str, str] = {"TITLE": escape(data["title"]), "STYLE": style, **scripts, "POLICY": _policy(scripts.values(), style, background)}
+    return re.sub("(?<=[>\"])(TITLE|STYLE|LIBRARY|DATA|SCRIPT|POLICY)(?=[<\"])", lambda found: parts[found[1]], _read("page.html"))
+
+
+def _policy(scripts: Iterable[str], style: str, background: Background | None) -> str:
+    """What the browser may run and load: the page's own scripts and style, by their checksums, and the tiles of a map behind it."""
+    terms = {"default-src": "'none'", "script-src": " ".join(map(_checksum, scripts)), "style-src": _checksum(style),
+             **({"img-src": background.origin} if background else {}), "base-uri": "'none'", "form-action": "'none'"}
+    return "; ".join(f"{name} {allowed}" for name, allowed in terms.items())
+
+
+def _checksum(text: str) -> str:
+    return f"'sha256-{b64encode(sha256(text.encode()).digest()).decode()}'"
+
+
+def _read(name: str) -> str:
+    return (HERE / name).read_text("utf-8")
 
 
 def _within(text: str) -> str:
@@ -42,4 +59,4 @@ def _within(text: str) -> str:
 def _library() -> str:
     if not DRAWING_LIBRARY.exists():
         raise Problem(f"{DRAWING_LIBRARY}: is missing; Debian has it as node-d3: apt install node-d3")
-    return DRAWING_LIBRARY.read_text()
+    return DRAWING_LIBRARY.read_text("utf-8")

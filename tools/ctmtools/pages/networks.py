@@ -1,16 +1,21 @@
-"""The networks of a page: where the cells of a report lie and what they belong to."""
+"""The networks of a page: where the cells of a report lie, what they belong to, their junctions and speed limits."""
 
 from __future__ import annotations
 
+import re
 from collections.abc import Callable, Mapping
 from typing import Any
 
+import networkx
+
 from ..plots.layout import Line, lay_out
 from ..report.reading import Report
-from .junctions import junctions_of, movements
+from ..texts.text_table import listed
 
 WITHOUT_ROADS = "all road cells, in the order of the file"  # of a network whose units, and so whose roads, aren't known
 Place = Callable[[Line], Line]  # takes a line of the map to where the page draws it
+MADE = re.compile(r"(.+)-(?:fork|join)\d+")  # what parts or joins the movements of a road, as studies name it
+MOST_NAMED = 4  # of the ways that lead into a junction so many name it
 
 
 def roads_of(report: Report) -> dict[str, list[str]]:
@@ -51,3 +56,60 @@ def _cell(report: Report, cell: str, line: Line, parts: Mapping[str, str], numbe
     if number is not None:
         return {**found, "from": number, "to": number + 1}
     return {**found, "from": round(row.get("from_km", 0), 6), "to": round(row.get("to_km", 0), 6)}
+
+
+def speed_limits(report: Report) -> list[dict[str, Any]]:
+    """The speed limits of a report: from and to when, as the page's clock has it, the speed, and the numbers of the cells.
+
+    The speed is in km/h, or in cells in a step where the units aren't known.
+    """
+    step, start = report.units.step, report.units.start or 0
+    found: dict[tuple[float, float, float], list[int]] = {}
+    for number, cell in enumerate(report.cells.index):
+        pace = report.need_network().paces.get(cell)
+        own = report.units.cells.get(cell, {}).get("free_flow_kmh", 1)
+        for begin, end, part in pace.slower() if pace else ():
+            first, last = (bound if step is None else start + bound * step for bound in (begin, end))
+            found.setdefault((first, last, round(own * part, 6)), []).append(number)
+    return [{"begin": begin, "end": end, "speed": speed, "cells": cells} for (begin, end, speed), cells in found.items()]
+
+
+def junctions_of(report: Report) -> dict[str, list[str]]:
+    """The cells of each junction, by a name made of the roads and gates that lead into it."""
+    graph, within = report.need_network().graph, dict.fromkeys(movements(report))
+    touching = networkx.Graph()
+    for cell in within:
+        touching.add_edges_from((("into", cell), ("from", up)) for up in graph.predecessors(cell))
+        touching.add_edges_from((("from", cell), ("into", down)) for down in graph.successors(cell))
+        touching.add_edge(("into", cell), ("from", cell))
+    found = {}
+    for ends in networkx.connected_components(touching):
+        cells = [cell for cell in report.cells.index if ("into", cell) in ends and cell in within]
+        ways = dict.fromkeys(_way(report, up) for cell in cells for up in graph.predecessors(cell) if up not in within)
+        found[f"junction of {_told(list(ways))}"] = cells
+    return found
+
+
+def movements(report: Report) -> list[str]:
+    """The roads of one cell that are a movement through a junction, or that part or join movements there, as cells."""
+    roads, kinds = report.units.roads, report.need_network().kinds
+    ends = {*roads, *(cell for cell, kind in kinds.items() if kind != "road")}
+    return [cells[0] for road, cells in roads.items() if len(cells) == 1 and _is_within(road, ends)]
+
+
+def _is_within(road: str, ends: set[str]) -> bool:
+    made = MADE.fullmatch(road)
+    if made:
+        return made[1] in ends
+    hyphens = (place for place, letter in enumerate(road) if letter == "-")
+    return any(road[:place] in ends and road[place + 1:] in ends for place in hyphens)
+
+
+def _way(report: Report, cell: str) -> str:
+    row = report.units.cells.get(cell)
+    return str(row["road"]) if row else cell
+
+
+def _told(ways: list[str]) -> str:
+    more = len(ways) - MOST_NAMED
+    return f"{', '.join(ways[:MOST_NAMED])} and {more} more" if more > 0 else listed(ways)

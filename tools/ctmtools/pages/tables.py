@@ -3,22 +3,23 @@
 from __future__ import annotations
 
 from collections.abc import Sequence
-from typing import Any
+from typing import TYPE_CHECKING, Any
 
 import numpy
-import pandas
 
+from ..report.comparability import mismatches, other_lanes_and_speeds
 from ..report.comparing import compare, side_by_side
 from ..report.queues import standing
 from ..report.reading import Report
 from ..report.travel import road_times
-from ..report.comparability import mismatches, other_lanes_and_speeds
 from ..yielding.messages import AT_GREENS, HEADS, green_rows
-from .junctions import junctions_of
-from .networks import is_measured, roads_of
+from .networks import is_measured, junctions_of, roads_of
+
+if TYPE_CHECKING:
+    import pandas
 
 MOST_CELLS = 10  # of those that differ so many are told
-LEAST_CHANGE = 0.005  # of delay or of vehicles gone, from which on a cell is one that differs, as `compare` has it
+LEAST_CHANGE = 0.005  # of delay or of vehicles that left, from which on a cell is one that differs, as `compare` has it
 
 Figures = list[float | None]
 
@@ -65,9 +66,9 @@ def _rows(report: Report) -> dict[str, Figures]:
 
 
 def _total(report: Report) -> Figures:
-    """The figures of the whole network: its delay by who came, and vehicles that were served."""
+    """The figures of the whole network: its delay by who entered, and the vehicles that left."""
     roads = [cell for cells in roads_of(report).values() for cell in cells]
-    units, total = report.units, report.total
+    units, total = report.units, report.sums
     figures = _figures(report, float(total.delay), float(total.left), _length(report, roads), _queued(report), None)
     each = total.delay * (units.step or 1) / total.entered if total.entered else None
     return [*figures[:3], _rounded(each), *figures[4:]]
@@ -92,9 +93,9 @@ def _length(report: Report, cells: Sequence[str]) -> float:
 
 def _queued(report: Report) -> pandas.DataFrame:
     """What of each road cell stands in a queue, in km or cells, from each recorded step on."""
-    stands, kinds = standing(report), report.need_network().kinds
-    lengths = [_length(report, [cell]) if kinds[cell] == "road" else 0.0 for cell in stands.columns]
-    return stands * numpy.array(lengths)
+    kinds = report.need_network().kinds
+    lengths = [_length(report, [cell]) if kinds[cell] == "road" else 0.0 for cell in report.cells.index]
+    return standing(report) * numpy.array(lengths)
 
 
 def _travel(report: Report) -> dict[str, float]:
@@ -104,11 +105,11 @@ def _travel(report: Report) -> dict[str, float]:
 
 
 def reports_of(reports: Sequence[Report], names: Sequence[str]) -> dict[str, Any]:
-    """A row for each report, as `compare` has them: came, served, inside, delay, and its rise over the first one's."""
+    """A row for each report, as `compare` has them: entered, left, inside, delay, and its rise over the first one's."""
     frame = side_by_side(dict(zip(names, reports)))
     unit = frame.attrs["units"]["delay"]
-    columns = ["report", "came", "served", "inside at the end", f"delay, {unit}", f"more than {names[0]}", "in %"]
-    rows = [[str(name), row.came, row.served, row.inside, row.delay, *((row.rise, 100 * row.part) if i else (None, None))]
+    columns = ["report", "entered", "left", "inside at the end", f"delay, {unit}", f"more than {names[0]}", "in %"]
+    rows = [[str(name), row.entered, row.left, row.inside, row.delay, *((row.rise, 100 * row.part) if i else (None, None))]
             for i, (name, row) in enumerate(frame.iterrows())]
     return {"columns": columns, "rows": [[name, *(None if value != value else value for value in values)]
                                          for name, *values in rows]}
@@ -119,9 +120,9 @@ def differing(reports: Sequence[Report], names: Sequence[str]) -> dict[str, Any]
     if len(reports) != 2:
         return None
     frame = compare(*reports)
-    changed = frame[(frame.delay_rise.abs() >= LEAST_CHANGE) | (frame.gone_rise.abs() >= LEAST_CHANGE)]
+    changed = frame[(frame.delay_rise.abs() >= LEAST_CHANGE) | (frame.left_rise.abs() >= LEAST_CHANGE)]
     unit = frame.attrs["units"]["delay"]
-    heads = [f"{what}, {of}" for what in (f"delay, {unit}", "vehicles gone") for of in (*names, "rise")]
+    heads = [f"{what}, {of}" for what in (f"delay, {unit}", "vehicles that left") for of in (*names, "rise")]
     rows = [[str(cell), *(None if value != value else round(float(value), 6) for value in row)]
             for cell, row in changed[:MOST_CELLS].iterrows()]
     return {"columns": ["cell", *heads], "rows": rows, "count": len(changed)}

@@ -39,7 +39,8 @@ function flow(report, cell, first, last) { return mean(report, "flow", cell, fir
 function waits(report, gate, frame) {
   return Math.max(0, density(report, gate, frame, frame + 1) - flow(report, gate, frame, frame + 1) / data.hour);
 }
-// What passes by what is there, so that a mean over time is that of the vehicles.
+// What is driven by the time spent, so that a mean over time is that of the vehicles. Nobody is faster than free flow, so what is
+// above it is rounding.
 function speed(report, cell, first, last) {
   const own = report.cells[cell], held = density(report, cell, first, last);
   if (own.kind !== "road" || held * PARTS < LEAST_PARTS * report.density.most[cell] || !held) return NaN;

@@ -12,7 +12,7 @@ from ..study.plan import Route
 
 MOST_NUMBERS = 100_000  # of all reports, ways and intervals together, about a megabyte; the ways that most take come first
 
-Way = tuple[str, str, tuple[str, ...]]  # a gate, an exit and the roads between them
+RouteRoads = tuple[str, str, tuple[str, ...]]  # a gate, an exit and the roads between them
 Spans = list[list[int]]  # the first and the last number of cells whose numbers follow each other
 
 
@@ -30,7 +30,7 @@ def ways_of(reports: Sequence[Report]) -> dict[str, Any] | None:
     ways = sorted(dict.fromkeys(way for own in by_way for way in own), key=lambda way: -_most([way], by_way))
     room = max(1, MOST_NUMBERS // (2 * len(reports) * len(starts)))
     of_reports = [_ReportWays(report, own, starts) for report, own in zip(reports, by_way)]
-    pairs: dict[tuple[str, str], list[Way]] = {}
+    pairs: dict[tuple[str, str], list[RouteRoads]] = {}
     for way in ways[:room]:
         pairs.setdefault(way[:2], []).append(way)
     return {"starts": starts, "widths": [_width(report) for report in reports], "has": [own is not None for own in found],
@@ -40,34 +40,34 @@ def ways_of(reports: Sequence[Report]) -> dict[str, Any] | None:
                       for (source, into), own in sorted(pairs.items(), key=lambda pair: -_most(pair[1], by_way))]}
 
 
-def _by_way(rows: Iterable[WayRow]) -> dict[Way, list[WayRow]]:
+def _by_way(rows: Iterable[WayRow]) -> dict[RouteRoads, list[WayRow]]:
     """The rows of each way."""
-    found: dict[Way, list[WayRow]] = {}
+    found: dict[RouteRoads, list[WayRow]] = {}
     for row in rows:
         found.setdefault((row.source, row.into, row.roads), []).append(row)
     return found
 
 
-def _most(ways: Iterable[Way], by_way: Sequence[dict[Way, list[WayRow]]]) -> float:
+def _most(ways: Iterable[RouteRoads], by_way: Sequence[dict[RouteRoads, list[WayRow]]]) -> float:
     """The most vehicles that take any of some ways in one of the reports."""
     return max(sum(row.vehicles for way in ways for row in own.get(way, ())) for own in by_way)
 
 
 def _width(report: Report) -> float | None:
     """The seconds of an interval of choice."""
-    units = report.units
-    return None if units.ways_interval is None else units.ways_interval * (units.step or 1)
+    interval = report.units.ways.interval
+    return None if interval is None else interval * (report.units.step or 1)
 
 
 class _ReportWays:
     """The ways of one report, as the page has them."""
 
-    def __init__(self, report: Report, rows: dict[Way, list[WayRow]], starts: Sequence[int]) -> None:
+    def __init__(self, report: Report, rows: dict[RouteRoads, list[WayRow]], starts: Sequence[int]) -> None:
         self.report, self.rows = report, rows
         self.intervals = {start: number for number, start in enumerate(starts)}
         self.numbers = {cell: number for number, cell in enumerate(report.cells.index)}
 
-    def data(self, way: Way) -> dict[str, Any] | None:
+    def data(self, way: RouteRoads) -> dict[str, Any] | None:
         """What the page has of a way; None where nobody takes it in this report."""
         if way not in self.rows:
             return None
@@ -78,7 +78,7 @@ class _ReportWays:
             vehicles[place], minutes[place] = round(row.vehicles, 3), round(row.minutes, 3)
         return {"cells": self._spans(way), "vehicles": vehicles, "minutes": minutes}
 
-    def _spans(self, way: Way) -> Spans:
+    def _spans(self, way: RouteRoads) -> Spans:
         """The numbers of the way's cells, from its gate to its exit."""
         source, into, roads = way
         route = Route(source, into, list(roads), [], "")

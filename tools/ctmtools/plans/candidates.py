@@ -8,12 +8,12 @@ from fractions import Fraction
 from functools import cached_property
 from pathlib import Path
 
-from ..network_file.kinds import CELLS, record_text
+from ..network_file.kinds import Record, file_text, record
 from ..problem import Problem
-from ..program import ask, in_words, why
-from ..study.network_text import Builder
-from ..study.plan import Study
-from ..study.rounding import Rounding
+from ..program.calls import ask, in_words, why
+from ..study.network_text import Builder, form_of
+from ..study.plan import Scenario
+from ..study.scale import Rounding
 
 MOST_PLANS = 16  # of one call, docs/FORMAT.md
 MOST_BYTES = 16_777_216  # of its input
@@ -26,29 +26,28 @@ class Candidate:
 
     form: int
     steps: int
-    records: tuple[str, ...]
+    records: tuple[Record, ...]
     rounding: Rounding = field(repr=False, compare=False)
 
     @cached_property
-    def cells(self) -> list[str]:
+    def cells(self) -> list[Record]:
         """The records of its cells, which stand in the base."""
-        return [record for record in self.records if record.partition(",")[0] in CELLS]
+        return [one for one in self.records if one.sort == "cells"]
 
     @cached_property
-    def groups(self) -> dict[tuple[str, str], list[str]]:
+    def groups(self) -> dict[tuple[str, str], list[Record]]:
         """Its records by kind and first cell; a diverge and its turns, which stand behind it, are one group."""
-        found: dict[tuple[str, str], list[str]] = {}
-        for record in self.records:
-            kind, cell = record.split(",", 2)[:2]
-            found.setdefault(("diverge" if kind == "turn" else kind, cell), []).append(record)
+        found: dict[tuple[str, str], list[Record]] = {}
+        for one in self.records:
+            found.setdefault(("diverge" if one.kind == "turn" else one.kind, one.values[0]), []).append(one)
         return found
 
 
-def candidate(study: Study) -> Candidate:
+def candidate(study: Scenario) -> Candidate:
     """The candidate that a study makes."""
     builder = Builder(study)
-    records = tuple(record for _, records in builder.sections() for record in records)
-    return Candidate(builder.form(records), builder.scale.steps, records, builder.rounding)
+    records = tuple(one for _, own in builder.sections() for one in own)
+    return Candidate(form_of(records), builder.scale.steps, records, builder.rounding)
 
 
 def beyond_a_plan(one: Candidate, other: Candidate) -> str | None:
@@ -57,7 +56,7 @@ def beyond_a_plan(one: Candidate, other: Candidate) -> str | None:
         return f"the steps, {one.steps} and {other.steps}"
     if len(one.cells) != len(other.cells):
         return f"the number of cells, {len(one.cells)} and {len(other.cells)}"
-    return next((f"a cell, `{first}` and `{second}`" for first, second in zip(one.cells, other.cells)
+    return next((f"a cell, `{first.text}` and `{second.text}`" for first, second in zip(one.cells, other.cells)
                  if first != second), None)
 
 
@@ -65,11 +64,11 @@ def question(candidates: Sequence[Candidate]) -> bytes:
     """The input of `choose`: the base, which is what all candidates have, and behind it what each has beyond that."""
     first, *others = candidates
     common = {key for key, records in first.groups.items() if all(other.groups.get(key) == records for other in others)}
-    lines = [f"ctm,{max(one.form for one in candidates)}", record_text("steps", first.steps)]
-    lines += [record for key, records in first.groups.items() if key in common for record in records]
-    for one in candidates:
-        lines += ["==", *(record for key, records in one.groups.items() if key not in common for record in records)]
-    return "".join(f"{line}\n" for line in lines).encode()
+    base = [record("steps", first.steps), *(one for key, own in first.groups.items() if key in common for one in own)]
+    lines = [file_text(max(one.form for one in candidates), base)]
+    for candidate in candidates:
+        lines += ["==\n", *(f"{one.text}\n" for key, own in candidate.groups.items() if key not in common for one in own)]
+    return "".join(lines).encode()
 
 
 def judged(candidates: Sequence[Candidate], program: str | Path | None = None) -> Iterator[list[Fraction]]:

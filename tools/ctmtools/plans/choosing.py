@@ -10,13 +10,14 @@ from typing import Any
 
 import pandas
 
-from ..kept_rows import KeptRows
+from ..many_runs.kept_rows import KeptValues
+from ..many_runs.results import Results
+from ..many_runs.task import Task, fingerprints, rounded, study
+from ..many_runs.variations import Variation, combinations
 from ..problem import Problem
-from ..program import program_path
-from ..running import settled_by_runs
-from ..study.reading import read_values
-from ..sweeps.task import Task, fingerprint, rounded, study
-from ..sweeps.variations import Variation, combinations
+from ..program.calls import program_path
+from ..runs.running import settled_by_runs
+from ..study.study import StudySource, study_from
 from .candidates import Candidate, beyond_a_plan, candidate, judged
 
 FILE = "plans.csv"
@@ -29,20 +30,21 @@ class Choice:
     With a folder the delays are kept there as they come, and a plan whose delay stands there isn't asked for again.
     """
 
-    def __init__(self, source: str | Path, variations: Sequence[Variation], folder: Path | None = None) -> None:
-        values, program = read_values(source), str(program_path())
+    def __init__(self, source: StudySource, variations: Sequence[Variation], folder: Path | None = None) -> None:
+        made, program = study_from(source), str(program_path())
+        values, path = made.values, str(made.path)
         self.keys = [one.key for one in variations]
-        self.tasks = [Task(values, str(source), changes, program) for changes in combinations(variations)]
-        self.step = study(Task(values, str(source), {}, program)).step
+        self.tasks = [Task(values, path, changes, program) for changes in combinations(variations)]
+        self.step = made.scenario.step
         self.errors: dict[int, str] = {}  # by the number of a plan that can't be built
         self.delays: dict[int, Fraction] = {}  # by the number of a plan, in vehicle-steps
         self.candidates = dict(self._built())
         if not self.candidates:
             raise Problem(f"no plan can be built; the first: {self.errors[0]}")
         self._check()
-        self.marks = {number: fingerprint(self.tasks[number]) for number in self.candidates}
-        self.kept = None if folder is None else KeptRows(folder / FILE, "choose", COLUMNS)
-        known = {} if self.kept is None else self.kept.values
+        self.marks = dict(zip(self.candidates, fingerprints([self.tasks[number] for number in self.candidates])))
+        self.kept = KeptValues(None if folder is None else folder / FILE, "choose", COLUMNS)
+        known = self.kept.values
         self.delays = {number: Fraction(known[mark]) for number, mark in self.marks.items() if mark in known}
         self.earlier = len(self.delays)
 
@@ -77,17 +79,16 @@ class Choice:
         for found in judged([one for number, one in self.candidates.items() if number not in self.delays]):
             for delay, number in zip(found, numbers):
                 self.delays[number] = delay
-                if self.kept:
-                    self.kept.put(self.marks[number], f"{delay.numerator}/{delay.denominator}")
+                self.kept.put(self.marks[number], f"{delay.numerator}/{delay.denominator}")
             yield len(found)
 
-    def frame(self) -> pandas.DataFrame:
+    def results(self) -> Results:
         """A row for each plan: the varied values, its delay in vehicle-hours, what was rounded, and why it failed.
 
         The least delay is first, of equals the first plan, and those that failed are last.
         """
         order = [*sorted(self.delays, key=lambda i: (self.delays[i], i)), *self.errors]
-        return pandas.DataFrame([self._row(i) for i in order])
+        return Results(pandas.DataFrame([self._row(i) for i in order]), tuple(self.keys))
 
     def _row(self, number: int) -> dict[str, Any]:
         failed = number in self.errors

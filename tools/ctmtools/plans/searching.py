@@ -4,26 +4,62 @@ from __future__ import annotations
 
 import os
 from collections.abc import Callable, Sequence
-from dataclasses import replace
+from dataclasses import dataclass, replace
 from fractions import Fraction
 from pathlib import Path
 from typing import Any
 
 import numpy
+import pandas
 
-from ..files import write
-from ..program import program_path
-from ..running import settled_by_runs
-from ..study.counted_demands import counted_demands, names_of
-from ..study.reading import read_values, study_of
+from ..files.writing import write
+from ..many_runs.kept_rows import KeptValues
+from ..many_runs.results import Results
+from ..many_runs.task import Task, fingerprint
+from ..program.calls import program_path
+from ..runs.running import settled_by_runs
+from ..study.folder import allow_files
+from ..study.keys import counted_demands, names_of
+from ..study.reading import scenario_of
+from ..study.study import StudySource, study_from
 from ..study.writing import study_text
-from ..sweeps.task import Task, fingerprint
 from .candidates import MOST_PLANS, candidate, judged
 from .timing import Point, Timing
-from .tried_plans import Tried
 
 FILE, BEST = "tried.csv", "best.toml"
+COLUMNS = ["search", "point", "delay_vehicle_steps"]  # of `FILE`
 News = Callable[[int, int, float], object]  # takes the generation, the runs so far, and the least delay in vehicle-hours
+
+
+class Tried:
+    """The delays of the points that were tried for a search, in vehicle-steps."""
+
+    def __init__(self, path: Path | None, mark: str) -> None:
+        self.path, self.kept = path, KeptValues(path, mark, COLUMNS)
+        self.delays: dict[Point, Fraction] = {tuple(map(int, point.split())): Fraction(delay)
+                                              for point, delay in self.kept.values.items()}
+
+    def put(self, point: Point, delay: Fraction) -> None:
+        """Adds a point with its delay, and writes its row."""
+        self.delays[point] = delay
+        self.kept.put(" ".join(map(str, point)), f"{delay.numerator}/{delay.denominator}")
+
+    @property
+    def best(self) -> Point:
+        """The point of the least delay; of equals the first that was tried."""
+        return min(self.delays, key=lambda point: self.delays[point])
+
+
+@dataclass(eq=False, kw_only=True)
+class Optimised(Results):
+    """The plans that were tried, the least delay first: the delay before and after, in vehicle-hours, and the best study's text.
+
+    A row has for each stop line or junction when it turns green or its cycle begins, in s, as `keys` have it.
+    """
+
+    before: float
+    after: float
+    text: str
 
 
 class Search:
@@ -32,10 +68,11 @@ class Search:
     With a folder it is kept there.
     """
 
-    def __init__(self, source: str | Path, folder: Path | None = None, least_green: Fraction = Fraction(10)) -> None:
-        self.path, values = Path(source), read_values(source)
+    def __init__(self, source: StudySource, folder: Path | None = None, least_green: Fraction = Fraction(10)) -> None:
+        made = study_from(source)
+        self.path, values = made.path, made.values
         self.timing = Timing(values, self.path, least_green)
-        mark = fingerprint(Task(values, str(source), {"least green": least_green}, ""))
+        mark = fingerprint(Task(values, str(self.path), {"least green": least_green}, ""))
         self.program, self.runs = program_path(), 0
         self.tried = Tried(folder / FILE if folder else None, mark)
         self.earlier = len(self.tried.delays)
@@ -79,7 +116,7 @@ class Search:
         new = [point for point in dict.fromkeys(points) if point not in self.tried.delays]
         for begin in range(0, len(new), MOST_PLANS):
             group = new[begin:begin + MOST_PLANS]
-            studies = [study_of(self.timing.changed(point), self.path) for point in group]
+            studies = [scenario_of(self.timing.changed(point), self.path) for point in group]
             candidates = [candidate(settled_by_runs(replace(one, actuated=[]), 1, str(self.program)).study) for one in studies]
             found = [delay for part in judged(candidates, self.program) for delay in part]
             for point, delay in zip(group, found):
@@ -89,18 +126,27 @@ class Search:
 
 
 def moved_to(values: dict[str, Any], source: Path, target: Path) -> dict[str, Any]:
-    """A study's values for a file in another place: files of counts are named as they are seen from there."""
+    """A study's values for a file in another place: files of counts are named as they are seen from there, and may be read so."""
+    allow_files(source.parent)
     for demand in counted_demands(values):
         names = [os.path.relpath(source.parent / name, target.parent) for name in names_of(demand)]
         demand["counts"] = names if isinstance(demand["counts"], list) else names[0]
     return values
 
 
-def best_study(search: Search, best: Point, source: str | Path, folder: Path | None) -> str:
+def optimised(search: Search, best: Point, folder: Path | None) -> Optimised:
+    """What a search has found; the study with the best timing is written into a folder where one is given."""
+    rows = [{**{place: float(first) for place, first, _ in search.timing.rows(point)}, "delay_vehicle_hours": search.hours(point)}
+            for point in sorted(search.tried.delays, key=search.hours)]
+    return Optimised(pandas.DataFrame(rows), tuple(rows[0])[:-1], before=search.hours(search.timing.start), after=search.hours(best),
+                     text=best_study(search, best, folder))
+
+
+def best_study(search: Search, best: Point, folder: Path | None) -> str:
     """The text of the study with the best timing, which is written into a folder where one is given."""
     target = (folder or Path()) / BEST
-    values = moved_to(search.timing.changed(best), Path(source), target)
-    text = study_text(values, f"{source} with the best of {len(search.tried.delays)} plans that were tried")
+    values = moved_to(search.timing.changed(best), search.path, target)
+    text = study_text(values, f"{search.path} with the best of {len(search.tried.delays)} plans that were tried")
     if folder:
         write(target, text)
     return text

@@ -11,8 +11,8 @@ from typing import Any
 
 from ..problem import Problem
 from ..study.plan import Signal
-from ..study.quantities import duration
-from ..study.reading import study_of
+from ..study.reading import scenario_of
+from ..texts.quantities import duration
 
 Point = tuple[int, ...]  # a number for each variable
 
@@ -78,7 +78,7 @@ class Timing:
     """The variables of a study's signals, each 0 to its `most`, and the study's values with the variables at a point."""
 
     def __init__(self, values: dict[str, Any], path: Path, least_green: Fraction) -> None:
-        study = study_of(copy.deepcopy(values), path)
+        study = scenario_of(copy.deepcopy(values), path)
         self.values, self.step = values, study.step
         self.lines: list[Line] = []
         self._put_lines(study.signals)

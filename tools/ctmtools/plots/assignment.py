@@ -8,13 +8,15 @@ from typing import TYPE_CHECKING
 import numpy
 from matplotlib.figure import Figure
 
+from ..arrays import Numbers
 from ..problem import Problem
 from ..report.reading import Report
-from .figure import beside, drawing, figure, head, moments, note, style, time_axis
+from .figure import beside, drawing, figure, head, moments, note, save, style, time_axis
 
 if TYPE_CHECKING:
     from ..assignment.assigning import Round
-    from ..assignment.ways_file import WayRow
+    from ..assignment.writing import Places
+from ..assignment.ways_file import WayRow
 
 MOST_WAYS = 6  # so many ways are drawn, those that most take
 MOST_ROADS = 4  # so many roads of a way are named
@@ -71,7 +73,7 @@ def _step(row: WayRow, report: Report) -> float:
     return (row.seconds - (report.units.start or 0)) / (report.units.step or 1)
 
 
-def _stairs(steps: numpy.ndarray, values: numpy.ndarray, width: float) -> tuple[numpy.ndarray, numpy.ndarray]:
+def _stairs(steps: Numbers, values: Numbers, width: float) -> tuple[Numbers, Numbers]:
     """The corners of a line of steps, broken where an interval is left out."""
     times, heights = [], []
     for place, (step, value) in enumerate(zip(steps, values)):
@@ -96,3 +98,10 @@ def _named(way: tuple[str, str, tuple[str, ...]], common: set[str]) -> str:
     own = [road for road in roads if road not in common] or list(roads)
     more = ", .." if len(own) > MOST_ROADS else ""
     return f"{source} to {into}: {', '.join(own[:MOST_ROADS])}{more}"
+
+
+def drawn(rounds: Sequence[Round], rows: Sequence[WayRow], report: Report, width: float, places: Places) -> None:
+    """Draws the gap of each round, and who sets out on the ways over time; an interval of choice is so many steps."""
+    gap, ways = places.pictures
+    save(draw_gap(rounds, report.title), gap)
+    save(draw_ways(rows, report, width), ways)

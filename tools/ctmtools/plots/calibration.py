@@ -2,12 +2,16 @@
 
 from __future__ import annotations
 
-import pandas
+from typing import TYPE_CHECKING
+
 from matplotlib.figure import Figure
 
 from ..calibration.diagram import Triangle
 from ..calibration.observed import Observed
 from .figure import SHADES, beside, drawing, figure, head, legend_below, named, style
+
+if TYPE_CHECKING:
+    import pandas
 
 MARKS = "osD^vP"
 

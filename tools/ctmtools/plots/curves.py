@@ -8,6 +8,7 @@ import networkx
 import numpy
 from matplotlib.figure import Figure
 
+from ..arrays import Numbers
 from ..problem import Problem
 from ..report.reading import Report
 from ..report.routes import main_route
@@ -49,12 +50,11 @@ def draw(report: Report, cells: Sequence[str] = (), background: float | None = N
     return drawn
 
 
-def _passed(report: Report, cell: str, kind: str) -> numpy.ndarray:
+def _passed(report: Report, cell: str, kind: str) -> Numbers:
     """The vehicles that have come to a gate or to an exit, or have gone out of a road, at each recorded step."""
-    if kind == "exit":
-        return report.occupancy[cell].to_numpy()
-    gone = report.departed[cell].to_numpy()
-    return gone + report.occupancy[cell].to_numpy() if kind == "gate" else gone
+    inside: Numbers = report.vehicles[cell].to_numpy()
+    left: Numbers = report.left[cell].to_numpy()
+    return inside if kind == "exit" else inside + left if kind == "gate" else left
 
 
 def _telling(report: Report) -> list[str]:

@@ -2,14 +2,18 @@
 
 from __future__ import annotations
 
+from typing import TYPE_CHECKING
+
 import numpy
-import pandas
 from matplotlib.axes import Axes
 from matplotlib.figure import Figure
 
 from ..report.reading import Report
 from .figure import drawing, figure, head, note
 from .labels import Label, Place, write
+
+if TYPE_CHECKING:
+    import pandas
 
 FEW_BARS = 60  # of more of them those of roads without delay are left out
 MOST_BARS = 150  # of more of them the half of these with the most delay are kept

@@ -10,8 +10,9 @@ from matplotlib.figure import Figure
 from matplotlib.lines import Line2D
 
 from ..problem import Problem
-from ..report.names import names_of
-from ..report.queues import queues_in, standing
+from ..report.comparability import names_of
+from ..report.measures import measured
+from ..report.queues import queues_in, stands
 from ..report.reading import Report
 from ..report.routes import kilometres, route_of
 from .figure import RISE, beside, drawing, figure, head, legend_below, moments, time_axis
@@ -36,7 +37,9 @@ def draw(first: Report, second: Report, road: str | None = None) -> Figure:
     if not times:
         raise Problem(f"{first.name} and {second.name} have no recorded step in common")
     bounds, known = kilometres(second, cells)
-    spread = (second.held.loc[times, cells] - first.held.loc[times, cells]).to_numpy().T / numpy.diff(bounds)[:, None]
+    one, two = (measured(report, cells=cells, lengths=numpy.diff(bounds)).density[numpy.searchsorted(report.times, times)]
+                for report in (first, second))
+    spread = (two - one).T
     most = float(numpy.abs(spread).max()) or 1.0
     drawn, axes = figure(size=(8, 4.4))
     ends = [*times, min(first.times[-1], second.times[-1])]
@@ -64,7 +67,7 @@ def _outlines(axes: Axes, first: Report, second: Report, cells: Sequence[str],
     for report, name, (dashes, shade) in zip((first, second), names_of([first, second]), LOOKS):
         if report.network is None or sum(queue.spells for queue in queues_in(report)) > MOST_OUTLINED:
             continue
-        if not standing(report)[cells].to_numpy().any():
+        if not stands(report)[:, report.places(cells)].any():
             continue
         outline(axes, report, cells, bounds, linewidths=1.0, linestyles=[dashes], colors=shade)
         handles.append(Line2D([], [], linewidth=1.0, linestyle=dashes, color=shade, label=f"queue, {name}"))

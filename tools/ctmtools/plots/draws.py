@@ -7,9 +7,8 @@ from matplotlib.axes import Axes
 from matplotlib.figure import Figure
 from matplotlib.ticker import FuncFormatter
 
-from ..uncertainty.bars import bars_of
 from ..uncertainty.reliability import PERCENTS
-from ..uncertainty.results import Results
+from ..uncertainty.results import Draws, bars_of
 from .figure import beside, drawing, figure, head, legend_below, named, style
 
 GREY = "#777777"
@@ -17,9 +16,9 @@ PERCENT = FuncFormatter(lambda part, _: f"{100 * part:g}%")
 
 
 @drawing
-def draw(results: Results) -> Figure:
+def draw(results: Draws) -> Figure:
     """Draws the distribution of each plan's delays above its sum, on which the percentiles are marked."""
-    delays = results.succeeded
+    delays = results.delays_by_plan
     drawn, (above, below) = figure(2, size=(8, 5.6), sharex=True)
     edges, shares = bars_of(delays)
     for i, (plan, values) in enumerate(delays.items()):

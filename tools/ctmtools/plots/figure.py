@@ -18,15 +18,18 @@ from matplotlib.colors import LinearSegmentedColormap
 from matplotlib.figure import Figure
 from matplotlib.ticker import FuncFormatter, MultipleLocator
 
-from ..files import write
+from ..files.writing import write
 from ..problem import Problem
 from ..report.reading import Report
-from ..study.quantities import clock
-from ..units import DAY, time_text
+from ..texts.quantities import DAY, clock
+from ..units import time_text
+from ..visible import visible
 
 LOOK: dict[str, Any] = {"font.size": 9.5, "axes.titlesize": 11, "axes.titlelocation": "left", "axes.spines.top": False,
         "axes.spines.right": False, "axes.grid": True, "grid.color": "#dddddd", "grid.linewidth": 0.6,
         "axes.axisbelow": True, "legend.frameon": False, "figure.constrained_layout.use": True, "svg.fonttype": "none",
+        "text.parse_math": False,  # a name may have a $
+        "text.usetex": False,  # which a file matplotlibrc of the folder where one stands may ask for; LaTeX isn't run
         "legend.fontsize": 9}
 SHADES = ("#000000", "#b2431f", "#5b7fb0", "#8f9a2c", "#7c5295", "#999999")
 DASHES = ("-", (0, (5, 1.5)), (0, (1.2, 1.2)), (0, (6, 1.5, 1.2, 1.5)), (0, (9, 3)), (0, (3, 1, 1, 1, 1, 1)))
@@ -73,7 +76,7 @@ def head(axes: Axes, text: str) -> None:
 
 def beside(axes: Axes, text: str) -> None:
     """Names the upright axis, in as many lines as it needs."""
-    axes.set_ylabel("\n".join(wrap(text, LETTERS_BESIDE)))
+    axes.set_ylabel("\n".join(wrap(visible(text), LETTERS_BESIDE)))
 
 
 def note(axes: Axes, text: str) -> None:
@@ -86,7 +89,7 @@ def _wrapped(axes: Axes, text: str, size: float, letters: int) -> str:
     """A text in lines of so many letters, or of fewer where these are too wide for the picture."""
     room = ROOM_ACROSS * axes.figure.bbox.width
     while True:
-        lines = "\n".join(wrap(text, letters))
+        lines = "\n".join(wrap(visible(text), letters))
         probe = axes.figure.text(0, 0, lines, fontsize=size)
         width = probe.get_window_extent(axes.figure.canvas.get_renderer()).width
         probe.remove()

@@ -7,7 +7,7 @@ from matplotlib.figure import Figure
 from ..problem import Problem
 from ..report.by_road import network_states
 from ..report.reading import Report
-from ..study.quantities import duration
+from ..texts.quantities import duration
 from .figure import DENSITY, beside, clock_axis, drawing, figure, head, moments
 
 SPAN = 300  # seconds

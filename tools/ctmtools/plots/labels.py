@@ -6,10 +6,11 @@ from collections.abc import Sequence
 from dataclasses import dataclass, field
 from typing import Any
 
-import numpy
 from matplotlib.axes import Axes
 from matplotlib.text import Annotation
 from matplotlib.transforms import Bbox
+
+from ..arrays import Numbers
 
 GAP = 2.0  # dots that are left between two names
 
@@ -38,7 +39,7 @@ class Label:
     most_crossed: int | None = None
 
 
-def write(axes: Axes, labels: Sequence[Label], shunned: numpy.ndarray | None = None) -> list[Label]:
+def write(axes: Axes, labels: Sequence[Label], shunned: Numbers | None = None) -> list[Label]:
     """Writes each label where it overlaps none before it, within the figure, and gives those that were left out.
 
     Of the places that are free the first with the fewest of the shunned points (in dots) is taken. The layout and the
@@ -77,7 +78,7 @@ def _is_free(box: Bbox, boxes: Sequence[Bbox], bounds: Bbox) -> bool:
     return inside and not any(box.overlaps(other) for other in boxes)
 
 
-def _crossed(box: Bbox, points: numpy.ndarray | None) -> int:
+def _crossed(box: Bbox, points: Numbers | None) -> int:
     """How many points lie in a box."""
     if points is None or not len(points):
         return 0

@@ -4,22 +4,40 @@ from __future__ import annotations
 
 import math
 from collections import deque
-from collections.abc import Iterator, Sequence
+from collections.abc import Iterator, Mapping, Sequence
 
 import networkx
 
 from ..chains import chains
 from ..report.reading import Report
 from ..report.routes import main_route
-from .unplaced_joints import Point, middle, middles
 
+Point = tuple[float, float]
 Line = list[Point]
 Joint = tuple[str, str]  # a sort of joint, and the cell that names it
 
+ROUNDS = 100  # after which joints of a junction stay where they are, to what can be seen
 TURN = math.radians(32)  # by which a branch leaves the road that it leaves or joins
 BEND = 0.25  # of the way between two placed ends by which a road bends aside
 STUB = 0.6  # of a mean road cell: how long a gate or an exit is
 MOST_WITHIN = 2  # cells of a way within a junction that is drawn between the roads around it
+
+
+def middle(points: list[Point]) -> Point:
+    """The mean of some points."""
+    return sum(x for x, _ in points) / len(points), sum(y for _, y in points) / len(points)
+
+
+def middles(graph: networkx.Graph, placed: Mapping[Joint, Point]) -> dict[Joint, Point]:
+    """A place for each joint of a graph that has none: the mean of the places of the joints beside it."""
+    loose = [joint for joint in graph if joint not in placed]
+    places = {joint: placed[joint] for joint in graph if joint in placed}
+    start = middle(list(places.values()))
+    places |= {joint: start for joint in loose}
+    for _ in range(ROUNDS):
+        for joint in loose:
+            places[joint] = middle([places[other] for other in graph[joint]])
+    return {joint: places[joint] for joint in loose}
 
 
 def lay_out(report: Report) -> dict[str, Line]:
@@ -109,7 +127,7 @@ class Map:
             following = [other for other in beside(way[-1]) if other not in way]
             if not following:
                 return
-            way.append(max(following, key=lambda other: come[other]))
+            way.append(max(following, key=come.__getitem__))
         line = self.lines[way[-1]]
         one, two = line[-2:] if sort == "sink" else (line[1], line[0])
         ahead = _beyond(one, two, 1.0)

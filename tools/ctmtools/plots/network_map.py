@@ -3,18 +3,22 @@
 from __future__ import annotations
 
 from collections.abc import Mapping
+from typing import TYPE_CHECKING
 
 import numpy
-import pandas
 from matplotlib.axes import Axes
 from matplotlib.collections import LineCollection
 from matplotlib.figure import Figure
 from matplotlib.patheffects import withStroke
 
+from ..arrays import Numbers
 from ..report.reading import Report
 from .figure import DENSITY, drawing, figure, head
 from .labels import Label, Place, write
 from .layout import Line, lay_out
+
+if TYPE_CHECKING:
+    import pandas
 
 LEAST_WIDTH, MOST_WIDTH = 1.5, 9.0
 HALO = [withStroke(linewidth=2.5, foreground="white")]  # so that a name can be read over a line
@@ -64,7 +68,7 @@ def _height(lines: Mapping[str, Line]) -> float:
     """The height of the figure in inches that suits the lines, at 8 inches of width."""
     points = numpy.array([point for line in lines.values() for point in line])
     width, height = numpy.ptp(points, axis=0)
-    return min(7.0, max(2.6, 1.7 + 6.5 * height / (width or 1.0)))
+    return min(7.0, max(2.6, 1.7 + 6.5 * float(height / (width or 1.0))))
 
 
 def _arrows(axes: Axes, report: Report, lines: Mapping[str, Line]) -> None:
@@ -86,7 +90,7 @@ def _names(axes: Axes, report: Report, lines: Mapping[str, Line], delay: pandas.
             labels.append((delay[cell], _end_label(report, lines, cell, delay[cell])))
     for road, cells in report.units.roads.items():
         labels.append((delay[cells].sum(), _road_label(f"road {road}", lines[cells[len(cells) // 2]])))
-    labels.sort(key=lambda row: -row[0])
+    labels.sort(key=lambda row: -float(row[0]))
     return len(write(axes, [label for _, label in labels], shunned=_points(axes, lines, widths)))
 
 
@@ -102,7 +106,7 @@ def _road_label(text: str, line: Line) -> Label:
     return Label(text, middle, ALONG, {"fontsize": 9, "color": "#333333", "path_effects": HALO}, MOST_CROSSED)
 
 
-def _points(axes: Axes, lines: Mapping[str, Line], widths: Mapping[str, float]) -> numpy.ndarray:
+def _points(axes: Axes, lines: Mapping[str, Line], widths: Mapping[str, float]) -> Numbers:
     """Points along all lines and along both their edges, in dots."""
     axes.figure.draw_without_rendering()
     found = []

@@ -3,19 +3,21 @@
 from __future__ import annotations
 
 from collections.abc import Iterator, Sequence
-from typing import Any
+from typing import TYPE_CHECKING, Any
 
 import numpy
-import pandas
 from matplotlib.axes import Axes
 from matplotlib.figure import Figure
 
-from ..report.summary import length, spilled, number_text, where
 from ..report.queues import SLOW, Queue, course, cycle_of, is_short, queues_in, reach_of_part
 from ..report.reading import Report
-from ..report.routes import road_of
+from ..report.routes import cells_of_road
+from ..report.summary import length, number_text, spilled, where
 from ..report.upstream import spills
 from .figure import drawing, figure, head, legend_below, moments, named, note, span_of, style, time_axis
+
+if TYPE_CHECKING:
+    import pandas
 
 MOST_LINES = 5
 
@@ -58,7 +60,7 @@ def _chosen(report: Report, roads: Sequence[str]) -> tuple[list[Queue], list[Que
 
     Short ones are drawn only where there are no longer ones.
     """
-    cells = {cell for road in roads for cell in road_of(report, road)}
+    cells = {cell for road in roads for cell in cells_of_road(report, road)}
     found = [queue for queue in queues_in(report) if not roads or cells & queue.spans.keys()]
     long = [queue for queue in found if not is_short(report, queue)]
     drawn = (long or found)[:MOST_LINES]

@@ -3,13 +3,16 @@
 from __future__ import annotations
 
 from collections.abc import Sequence
+from typing import TYPE_CHECKING
 
-import pandas
 from matplotlib.figure import Figure
 
 from ..moments.metering import Gauge
 from ..report.reading import Report
 from .figure import beside, drawing, figure, head, legend_below, moments, named, style, time_axis
+
+if TYPE_CHECKING:
+    import pandas
 
 
 @drawing

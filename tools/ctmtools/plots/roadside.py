@@ -3,15 +3,17 @@
 from __future__ import annotations
 
 from collections.abc import Iterator, Mapping, Sequence
-from typing import Any
+from typing import TYPE_CHECKING, Any
 
-import pandas
 from matplotlib.axes import Axes
 from matplotlib.collections import LineCollection
 from matplotlib.patches import Rectangle
 
 from ..report.reading import Report
 from .figure import moments, note
+
+if TYPE_CHECKING:
+    import pandas
 
 LEAST_APART = 0.035  # of the height of a diagram between two names beside it
 RED = "#c00000"

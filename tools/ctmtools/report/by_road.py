@@ -1,4 +1,4 @@
-"""A report by road and gate or by ramp, and by spans of time: vehicles, density, speed, delay, queue, level of service."""
+"""A report by road and gate or by ramp, and by spans of time: vehicles that left, density, speed, delay, queue, level of service."""
 
 from __future__ import annotations
 
@@ -7,18 +7,20 @@ from collections.abc import Sequence
 import numpy
 import pandas
 
+from ..arrays import Flags, Numbers
 from ..problem import Problem
 from ..units import MILE_KM
-from .summary import where
-from .queues import standing
+from .measures import hour_of, measured_together
+from .queues import stands
 from .reading import Report
 from .states import times
+from .summary import where
 
 # The Highway Capacity Manual's levels of service of a motorway: for each the most vehicles per mile in a lane.
 LEVELS = (("A", 11), ("B", 18), ("C", 26), ("D", 35), ("E", 45))
 
 DIGITS = 9  # behind the point, beyond which is what sums of numbers leave of nothing
-COLUMNS = ("vehicles", "flow", "density", "speed", "delay", "delay_each", "queue")
+COLUMNS = ("left", "flow", "density", "speed", "delay", "delay_each", "queue")
 
 
 def level(density: float) -> str:
@@ -67,7 +69,6 @@ def ramps(report: Report) -> dict[str, list[str]]:
             cells.append(ways[0][1])
     return found
 
-
 PARTS = {"road": roads_and_gates, "ramp": ramps}
 
 
@@ -75,23 +76,17 @@ def by_road(report: Report, every: float | None = None, value_of_time: float | N
             by: str = "road") -> pandas.DataFrame:
     """A row for each span of time and each road or gate; by `ramp` for each ramp, with the gate before it.
 
-    `vehicles` have left it and `flow` is that in vehicles/h; `density` is the mean in vehicles/km in a lane and `level`
-    its level of service, `speed` the mean in km/h, over place and time; `delay` is in vehicle-hours and `delay_each` in
+    `left` are the vehicles that left it and `flow` is that in vehicles/h; `density` in vehicles/km in a lane, with `level`, its level
+    of service, and `speed` in km/h are by Edie's definitions of all of it; `delay` is in vehicle-hours and `delay_each` in
     seconds for each vehicle that left; `queue` is the most km that stood in a queue at once. With a value of time, in
     money an hour, `cost` is what the delay costs. Where units aren't known there are no roads, and gates alone have rows.
     """
     bounds = bounds_of(report, every)
-    units, parts, rows = report.units, PARTS[by](report), []
-    stands, held, flow, waited = standing(report), report.held, report.flow, report.waited
-    lasting = numpy.diff(report.times)
-    for begin, end in zip(bounds, bounds[1:]):
-        inside = (report.times[:-1] >= begin) & (report.times[:-1] < end)
-        for name, cells in parts.items():
-            weights = lasting[inside][:, None]
-            stood, went = held[cells].to_numpy()[inside] * weights, flow[cells].to_numpy()[inside] * weights
-            queued = stands[cells].to_numpy()[inside]
-            delay = float(waited[cells].to_numpy()[inside].sum())
-            rows.append((begin, name, *_figures(report, cells, stood, went, queued, delay, end - begin)))
+    units = report.units
+    parts, queued = PARTS[by](report), stands(report)
+    lengths = report.lengths if units.known else numpy.ones(len(report.names))
+    found = [_rows(report, bounds, cells, lengths, queued) for cells in parts.values()]
+    rows = [(bounds[span], name, *row[span]) for span in range(len(bounds) - 1) for name, row in zip(parts, found)]
     frame = pandas.DataFrame(rows, columns=["step", by, *COLUMNS]).round(DIGITS)
     frame.insert(0, "time", times(units, frame["step"].to_numpy()))
     frame.insert(6, "level", [level(density) for density in frame.density] if units.known else "")
@@ -99,27 +94,29 @@ def by_road(report: Report, every: float | None = None, value_of_time: float | N
         if not units.known:
             raise Problem(f"{report.name}: the units aren't known, so the delay has no cost")
         frame["cost"] = frame.delay * value_of_time
-    frame.attrs["units"] = {"vehicles": "vehicles", "flow": "vehicles/h" if units.known else "vehicles in a step",
+    frame.attrs["units"] = {"left": "vehicles", "flow": "vehicles/h" if units.known else "vehicles in a step",
                             "density": "vehicles/km in a lane", "speed": "km/h", "delay": units.delay_unit, "delay_each":
                             "s" if units.known else "steps", "queue": "km" if units.known else "cells"}
     return frame
 
 
-def _figures(report: Report, cells: Sequence[str], stood: numpy.ndarray, went: numpy.ndarray, queued: numpy.ndarray,
-             delay: float, steps: int) -> tuple[float, ...]:
-    """Vehicles, flow, density, speed, delay, delay of each and queue of some cells in a span, of their delay in vehicle-steps."""
-    units = report.units
-    hour, second = (3600 / units.step, units.step) if units.step is not None else (1.0, 1.0)
-    lengths = numpy.array([units.length(cell) or numpy.nan for cell in cells]) if units.known else numpy.ones(len(cells))
-    vehicles = float(went[:, -1].sum())
-    roads = ~numpy.isnan(lengths)
+def _rows(report: Report, bounds: Sequence[int], cells: Sequence[str], lengths: Numbers,
+          queued: Flags) -> list[tuple[float, ...]]:
+    """Vehicles that left some cells, flow, density, speed, delay, delay of each and queue, from each bound to the next.
+
+    Of all cells `lengths` are those, and `queued` says which stand in a queue.
+    """
+    units, places = report.units, report.places(cells)
+    own = lengths[places]
     lanes = numpy.array([(units.cells.get(cell) or {}).get("lanes", 1) for cell in cells])
-    lengths, lanes, stood, went, queued = lengths[roads], lanes[roads], stood[:, roads], went[:, roads], queued[:, roads]
-    density = float(stood.sum() / steps / (lengths * lanes).sum()) if roads.any() else numpy.nan
-    speed = float((went * lengths).sum() * hour / stood.sum()) if stood.sum() > 0 else numpy.nan
-    reach = float((queued * lengths).sum(axis=1).max()) if queued.size else 0.0
-    each = delay * second / vehicles if vehicles > 0 else numpy.nan
-    return vehicles, vehicles / steps * hour, density, speed, float(units.hours(delay)), each, reach
+    found = measured_together(report, bounds, cells, lanes, own)
+    rows, steps = numpy.searchsorted(report.times, bounds), numpy.diff(bounds)
+    left = numpy.add.reduceat(report.passed[:, places[-1]], rows[:-1])
+    delay = numpy.add.reduceat(report.waited[:, places].sum(axis=1), rows[:-1])
+    reach = numpy.maximum.reduceat(queued[:, places] @ numpy.nan_to_num(own), rows[:-1])
+    with numpy.errstate(invalid="ignore", divide="ignore"):
+        each = numpy.where(left > 0, delay * (units.step if units.step is not None else 1.0) / left, numpy.nan)
+    return list(zip(left, left / steps * hour_of(report), found.density, found.speed, units.hours(delay), each, reach))
 
 
 def network_states(report: Report, every: float | None = None) -> pandas.DataFrame:
@@ -129,16 +126,10 @@ def network_states(report: Report, every: float | None = None) -> pandas.DataFra
     where the units aren't known, over cells, in vehicles a step and vehicles a cell.
     """
     units, kinds = report.units, report.need_network().kinds
-    bounds, cells = bounds_of(report, every), [cell for cell in report.cells.index if kinds[cell] == "road"]
+    bounds, cells = bounds_of(report, every), [cell for cell in report.names if kinds[cell] == "road"]
     known = units.known and bool(units.cells)
-    lengths = numpy.array([(units.length(cell) or 0.0) if known else 1.0 for cell in cells])
+    lengths = report.lengths[report.places(cells)] if known else numpy.ones(len(cells))
     lanes = numpy.array([units.cells.get(cell, {}).get("lanes", 1) if known else 1 for cell in cells])
-    total, hour = float((lengths * lanes).sum()), 3600 / units.step if known and units.step is not None else 1.0
-    lasting, held, flow = numpy.diff(report.times), report.held[cells].to_numpy(), report.flow[cells].to_numpy()
-    rows = []
-    for begin, end in zip(bounds, bounds[1:]):
-        inside = (report.times[:-1] >= begin) & (report.times[:-1] < end)
-        weights = lasting[inside][:, None] / (end - begin)
-        rows.append((begin, (held[inside] * weights).sum() / total,
-                     (flow[inside] * weights * lengths).sum() * hour / total))
-    return pandas.DataFrame(rows, columns=["step", "density", "flow"])
+    found = measured_together(report, bounds, cells, lanes, lengths)
+    flow = found.flow if known else found.flow / hour_of(report)
+    return pandas.DataFrame({"step": bounds[:-1], "density": found.density, "flow": flow})

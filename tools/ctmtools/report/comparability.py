@@ -1,11 +1,12 @@
-"""Where two reports are of other cells, places or times, so that they aren't like with like, or of other lanes."""
+"""What reports that stand side by side are called, and where they aren't like with like: other cells, places, times or lanes."""
 
 from __future__ import annotations
 
 from collections.abc import Iterator, Mapping, Sequence
+from pathlib import Path
 from typing import Any
 
-from ..first_few import first_few
+from ..texts.text_table import first_few
 from .reading import Report
 
 TERMS = {"lanes": ("number of lanes", ""), "free_flow_kmh": ("free-flow speed", " km/h"),
@@ -39,7 +40,7 @@ def _speed_limits(first: Report, second: Report) -> Iterator[str]:
     if first.network is None or second.network is None:
         return
     limits = [{cell: list(pace.slower()) for cell, pace in network.paces.items()} for network in (first.network, second.network)]
-    other = [cell for cell in first.cells.index if cell in second.cells.index and limits[0].get(cell) != limits[1].get(cell)]
+    other = [cell for cell in first.names if cell in second.names and limits[0].get(cell) != limits[1].get(cell)]
     if other:
         told = [_limit(report, other[0], own.get(other[0])) for report, own in zip((first, second), limits)]
         yield (f"{len(other)} cell{'s have' if len(other) > 1 else ' has'} other speed limits in A and in B, as {other[0]}: {told[0]} in A, "
@@ -59,10 +60,10 @@ def _limit(report: Report, cell: str, limits: Sequence[tuple[int, int, float]] |
 
 
 def _cells(first: Report, second: Report) -> Iterator[str]:
-    alone = [[cell for cell in one.cells.index if cell not in other.cells.index]
-             for one, other in ((first, second), (second, first))]
+    known = [set(report.names) for report in (first, second)]
+    alone = [[cell for cell in one.names if cell not in other] for one, other in ((first, known[1]), (second, known[0]))]
     if any(alone):
-        both = len(first.cells) - len(alone[0])
+        both = len(first.names) - len(alone[0])
         told = [f"{len(cells)} of {name} alone ({first_few(cells)})" for name, cells in zip("AB", alone) if cells]
         yield f"A and B have other cells: {' and '.join(told)}, {both} of both"
 
@@ -90,3 +91,12 @@ def _span(report: Report) -> str:
     if not units.known:
         return f"{report.steps:,} steps of unknown length"
     return f"{report.steps:,} steps of {units.step:g} s, {units.clock(0)} to {units.clock(report.steps)}"
+
+
+def names_of(reports: Sequence[Report]) -> list[str]:
+    """A name for each report, no two alike: its title, else its file's name, else its path, else its title with a number."""
+    paths, titles = [report.name for report in reports], [report.title for report in reports]
+    for names in (titles, [Path(path).stem for path in paths], paths):
+        if len(set(names)) == len(names):
+            return names
+    return [f"{title} ({number})" for number, title in enumerate(titles, 1)]

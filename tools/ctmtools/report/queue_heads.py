@@ -9,8 +9,7 @@ from __future__ import annotations
 from collections.abc import Mapping
 from math import inf
 
-import networkx
-
+from ..network_file.network import Network
 from .reading import Report
 
 FULL = 0.99  # a cell passes all that its closure leaves where it passes so much of it
@@ -22,19 +21,19 @@ Spans = Mapping[str, list[Span]]  # when each cell of a queue stood in it
 def heads(report: Report, spans: Spans) -> list[tuple[int, str]]:
     """The cells from which the parts of a queue reach back, each with when its part began, the earliest first."""
     found: dict[str, int] = {}
-    for begin, cell in _origins(spans, report.need_network().graph):
+    for begin, cell in _origins(spans, report.need_network()):
         before = [up for up in before_closure(report, begin, cell) if up in spans]
         found.setdefault(min(before, key=lambda up: spans[up][0], default=cell), begin)
     return sorted((begin, cell) for cell, begin in found.items())
 
 
-def _origins(spans: Spans, graph: networkx.DiGraph) -> list[tuple[int, str]]:
+def _origins(spans: Spans, network: Network) -> list[tuple[int, str]]:
     """The cells where a part of the queue began by itself, and when: no cell behind it stood in the queue then."""
     firsts: dict[str, int] = {}
     for cell, own in spans.items():
         for begin, _ in own:
             behind = any(first <= begin <= last
-                         for down in graph.successors(cell) for first, last in spans.get(down, ()))
+                         for down in network.downs[cell] for first, last in spans.get(down, ()))
             if not behind and cell not in firsts:
                 firsts[cell] = begin
     if not firsts:  # a ring that is full all round
@@ -49,12 +48,13 @@ def before_closure(report: Report, begin: int, cell: str) -> list[str]:
     A cell that passes less than its closure leaves is held up by something else. A closure goes on upstream as far as
     cells pass as little as the one behind them or less.
     """
-    if report.flow[cell].iloc[begin] < FULL * _left(report, begin, cell):
+    left = _left(report, begin, cell)
+    if left == inf or report.passed[begin, report.place(cell)] < FULL * left * report.lasting[begin, 0]:
         return []
-    graph, found, passed, waiting = report.need_network().graph, [], {cell}, [cell]
+    ups, found, passed, waiting = report.need_network().ups, [], {cell}, [cell]
     while waiting:
         within = waiting.pop()
-        for up in graph.predecessors(within):
+        for up in ups[within]:
             if _left(report, begin, up) > _left(report, begin, within):
                 found.append(up)
             elif up not in passed:
@@ -72,4 +72,4 @@ def _left(report: Report, begin: int, cell: str) -> float:
     if network.kinds[cell] != "road" or cell in report.units.cycles:
         return inf
     holding = [most for start, end, most in network.limits_of.get(cell, ()) if start < last and first < end]
-    return holding[-1] if holding and holding[-1] < network.cells.Q[cell] else inf
+    return holding[-1] if holding and holding[-1] < network.capacities[cell] else inf

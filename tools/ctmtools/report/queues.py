@@ -2,16 +2,19 @@
 
 from __future__ import annotations
 
-from collections.abc import Iterator
+from collections.abc import Iterable, Iterator
 from dataclasses import dataclass, field
 from itertools import pairwise
+from typing import TYPE_CHECKING
 
-import networkx
 import numpy
-import pandas
 
+from ..arrays import Flags, Numbers, first_greatest
 from .queue_heads import Span, Spans, before_closure, heads
 from .reading import Report
+
+if TYPE_CHECKING:
+    import pandas
 
 SLOW = 0.8  # a cell is in a queue where its traffic moves slower than this part of the free-flow speed
 LEAST = 0.1  # vehicles; a cell that holds less is empty
@@ -36,8 +39,8 @@ class Queue:
     """A queue: the cells that stood in it, joined in space and time.
 
     `start`, `end` and `reached` are steps; `end` is None where the queue still stands at the last step. `reach` is in
-    km where lengths are known, else in cells; gates count nothing. `delay` is in vehicle-steps, `most` in vehicles; where a
-    speed limit holds both are beyond driving at it.
+    km where lengths are known, else in cells; gates count nothing. `delay` is in vehicle-steps, `most` in vehicles, and `most_at` is
+    when so many first wait; where a speed limit holds both are beyond driving at it.
     `spells` tells how often it came, as at a signal in each cycle. `reach` is that of the cells to which it grew from its
     origin, and `longest_reach` that from any of its origins through what stood there before and what it touched.
     """
@@ -64,33 +67,44 @@ def standing(report: Report) -> pandas.DataFrame:
     A cell that has waited for less than one such step makes it never did, though means over several steps may look so
     where vehicles come in platoons.
     """
-    held, flow = report.held, report.flow
-    frame = (held >= LEAST) & (flow < SLOW * report.free_parts * held)
-    kinds, waited = report.need_network().kinds, report.cells.wait - report.slowed.sum()
-    never = [cell for cell in frame.columns if kinds[cell] == "exit" or waited[cell] < (1 - SLOW) * LEAST]
-    frame.loc[:, never] = False
-    return frame
+    import pandas  # here and below, so that a run of which no frame is asked doesn't load it
+
+    found = stands(report)
+    return pandas.DataFrame(found, index=report.times[:-1], columns=report.names)
+
+
+def stands(report: Report) -> Flags:
+    """The truth values of `standing` alone: a row from each recorded step to the next, a column for each cell."""
+    own = stands_in(report.waiting)
+    found = numpy.zeros((len(own), len(report.names)), dtype=bool)
+    found[:, report.places(report.waiting.names)] = own
+    return found
+
+
+def stands_in(report: Report) -> Flags:
+    """The same of the cells of a report alone; of others than those in which anyone has waited none does."""
+    kinds, spent = report.need_network().kinds, report.spent
+    found: Flags = (spent >= LEAST * report.lasting) & (report.passed < SLOW * report.free_parts * spent)
+    waited = report.amounts.wait - report.slowed.sum(axis=0)
+    found[:, numpy.array([kinds[cell] == "exit" for cell in report.names], dtype=bool) | (waited < (1 - SLOW) * LEAST)] = False
+    return found
 
 
 def queues_in(report: Report) -> list[Queue]:
     """The queues of a report, the most costly first."""
-    stands = standing(report)
-    runs = {cell: _runs(stands[cell].to_numpy()) for cell in stands.columns[stands.any().to_numpy()]}
-    graph = report.need_network().graph
-    joined = networkx.Graph()
-    joined.add_nodes_from((cell, i) for cell, spans in runs.items() for i in range(len(spans)))
-    for up, down in graph.edges:
-        if up in runs and down in runs:
-            joined.add_edges_from(((up, i), (down, j)) for i, j in _touching(runs[up], runs[down]))
+    found, cells = stands_in(report.waiting), report.waiting.names
+    runs = {cells[place]: _runs(found[:, place]) for place in numpy.flatnonzero(found.any(axis=0)).tolist()}
+    joined = Joined((cell, i) for cell, spans in runs.items() for i in range(len(spans)))
+    for up in runs:
+        for down in report.need_network().downs[up]:
+            joined.join(((up, i), (down, j)) for i, j in _touching(runs[up], runs.get(down, [])))
     _join_closures(report, joined, runs)
     spells = _join_returning(report, joined, runs)
-    waits = _waits(report)
-    places = {cell: i for i, cell in enumerate(stands.columns)}
-    found = []
-    for nodes in networkx.connected_components(joined):
-        spans = _spans(sorted(nodes, key=lambda node: (places[node[0]], node[1])), runs)
-        found.append(_queue(report, spans, waits, sum(spells[node] for node in nodes)))
-    return sorted(found, key=lambda queue: -queue.delay)
+    queues, waits = [], vehicles_waiting(report.waiting)
+    for nodes in joined.parts():
+        spans = _spans(sorted(nodes, key=lambda node: (report.place(node[0]), node[1])), runs)
+        queues.append(_queue(report, spans, waits, sum(spells[node] for node in nodes)))
+    return sorted(queues, key=lambda queue: -queue.delay)
 
 
 def is_short(report: Report, queue: Queue) -> bool:
@@ -106,8 +120,7 @@ def cycle_of(report: Report, cell: str) -> int:
 
     Where the cell has no signal, traffic comes to it as others let it go, so the longest cycle of them is given.
     """
-    signals = report.need_network().signals
-    cycles = {**report.units.cycles, **dict(zip(signals.cell, signals.cycle))}
+    cycles = {**report.units.cycles, **report.need_network().cycles}
     return int(cycles[cell] if cell in cycles else max(cycles.values(), default=0))
 
 
@@ -116,10 +129,12 @@ def course(report: Report, queue: Queue) -> pandas.DataFrame:
 
     `reach` is in the unit of the queue's, `waiting` in vehicles.
     """
+    import pandas
+
     times = report.times[:-1]
-    waiting, waits = numpy.zeros(len(times)), _waits(report)
+    waiting, waits = numpy.zeros(len(times)), vehicles_waiting(report.waiting)
     for cell, spans in queue.spans.items():
-        waits_here = waits[cell].to_numpy()
+        waits_here = waits[:, report.waiting.place(cell)]
         for begin, end in spans:
             waiting[begin:end] += waits_here[begin:end]
     return pandas.DataFrame({"reach": _reach_over_time(report, queue.origin, queue.spans, 0), "waiting": waiting}, index=times)
@@ -127,10 +142,12 @@ def course(report: Report, queue: Queue) -> pandas.DataFrame:
 
 def reach_of_part(report: Report, queue: Queue, part: Origin) -> pandas.Series:
     """How far a part that joined a queue reaches back from its own origin, from each recorded step on."""
+    import pandas
+
     return pandas.Series(_reach_over_time(report, part.cell, queue.spans, part.start), index=report.times[:-1])
 
 
-def _reach_over_time(report: Report, origin: str, spans: Spans, start: int) -> numpy.ndarray:
+def _reach_over_time(report: Report, origin: str, spans: Spans, start: int) -> Numbers:
     """How far the cells to which a queue grew from an origin reach back, from each recorded step on."""
     reach, ways = numpy.zeros(len(report.times) - 1), _ways(report, origin, spans)
     for cell, own in grown_from(report, origin, spans, start).items():
@@ -145,12 +162,12 @@ def grown_from(report: Report, origin: str, spans: Spans, start: int) -> dict[st
 
     What stood there before it came is another's, which began elsewhere.
     """
-    graph = report.need_network().graph
+    ups = report.need_network().ups
     waiting = [(origin, span) for span in spans[origin] if report.times[span[1]] >= start]
     seen = set(waiting)
     while waiting:
         cell, (begin, end) = waiting.pop()
-        for up in graph.predecessors(cell):
+        for up in ups[cell]:
             for span in spans.get(up, ()):
                 if begin <= span[0] <= end and (up, span) not in seen:
                     seen.add((up, span))
@@ -161,12 +178,16 @@ def grown_from(report: Report, origin: str, spans: Spans, start: int) -> dict[st
     return found
 
 
-def _waits(report: Report) -> pandas.DataFrame:
-    """The vehicles of each cell that wait from each recorded step to the next, beyond those who drive at free flow."""
-    return (report.held - report.flow / report.free_parts).clip(lower=0)
+def vehicles_waiting(report: Report) -> Numbers:
+    """The vehicles of each cell that wait from each recorded step to the next, beyond those who drive at free flow.
+
+    They add up to no more than what the program says of the cell, however seldom it is recorded.
+    """
+    waits: Numbers = numpy.clip((report.waited - report.slowed) / report.lasting, 0, None)
+    return waits
 
 
-def _runs(flags: numpy.ndarray) -> list[Span]:
+def _runs(flags: Flags) -> list[Span]:
     """The spans over which the flags are true."""
     edges = numpy.diff(numpy.concatenate([[0], flags.astype(int), [0]]))
     return [(int(begin), int(end)) for begin, end in zip(numpy.flatnonzero(edges == 1), numpy.flatnonzero(edges == -1))]
@@ -191,26 +212,26 @@ def _spans(nodes: list[Node], runs: Spans) -> dict[str, list[Span]]:
     return spans
 
 
-def _join_closures(report: Report, joined: networkx.Graph, runs: Spans) -> None:
+def _join_closures(report: Report, joined: Joined, runs: Spans) -> None:
     """Joins what is slow in a closure with the queue before it, though cells between them may be fast enough."""
-    graph, closed = report.need_network().graph, report.need_network().limits_of
-    for cell, i in [node for node in joined if node[0] in closed]:
-        if any(graph.has_edge(other, cell) for other, _ in joined[cell, i]):
+    network = report.need_network()
+    for cell, i in [node for node in joined.beside if node[0] in network.limits_of]:
+        if any(other in network.ups[cell] for other, _ in joined.beside[cell, i]):
             continue  # what it is joined to upstream is joined to the queue before the closure
         span = runs[cell][i]
         for up in before_closure(report, span[0], cell):
-            joined.add_edges_from(((cell, i), (up, j)) for _, j in _touching([span], runs.get(up, [])))
+            joined.join(((cell, i), (up, j)) for _, j in _touching([span], runs.get(up, [])))
 
 
-def _join_returning(report: Report, joined: networkx.Graph, runs: Spans) -> dict[Node, int]:
+def _join_returning(report: Report, joined: Joined, runs: Spans) -> dict[Node, int]:
     """Joins the queues that began at one cell and came back within two cycles.
 
     Gives for each node 1 where it stands for a queue as it was before, and else 0.
     """
     times = report.times
-    spells = dict.fromkeys(joined, 0)
+    spells = dict.fromkeys(joined.beside, 0)
     came: dict[str, list[tuple[int, int, Node]]] = {}
-    for nodes in list(networkx.connected_components(joined)):
+    for nodes in list(joined.parts()):
         spans = _spans(sorted(nodes), runs)
         begin, origin = heads(report, spans)[0]
         first = min(nodes)
@@ -220,7 +241,7 @@ def _join_returning(report: Report, joined: networkx.Graph, runs: Spans) -> dict
         pause = CYCLES * cycle_of(report, origin)
         for (_, end, one), (begin, _, two) in pairwise(sorted(own)):
             if pause and times[begin] - times[end] <= pause:
-                joined.add_edge(one, two)
+                joined.join([(one, two)])
     return spells
 
 
@@ -228,7 +249,34 @@ def _end(spans: Spans) -> int:
     return max(span[1] for own in spans.values() for span in own)
 
 
-def _queue(report: Report, spans: Spans, waits: pandas.DataFrame, spells: int) -> Queue:
+class Joined:
+    """Spans of cells, and for each those `beside` it that are of the same queue."""
+
+    def __init__(self, nodes: Iterable[Node]) -> None:
+        self.beside: dict[Node, set[Node]] = {node: set() for node in nodes}
+
+    def join(self, pairs: Iterable[tuple[Node, Node]]) -> None:
+        """Puts both of each pair into one queue."""
+        for one, two in pairs:
+            self.beside[one].add(two)
+            self.beside[two].add(one)
+
+    def parts(self) -> Iterator[set[Node]]:
+        """The spans of each queue."""
+        seen: set[Node] = set()
+        for node in self.beside:
+            part, waiting = set(), [node]
+            while waiting:
+                one = waiting.pop()
+                if one not in seen:
+                    seen.add(one)
+                    part.add(one)
+                    waiting += self.beside[one]
+            if part:
+                yield part
+
+
+def _queue(report: Report, spans: Spans, waits: Numbers, spells: int) -> Queue:
     """The queue of the spans of cells that hang together."""
     times = report.times
     origins = heads(report, spans)
@@ -236,10 +284,10 @@ def _queue(report: Report, spans: Spans, waits: pandas.DataFrame, spells: int) -
     farthest, reach, reached = _reach(report, origin, spans, 0)
     sums = numpy.zeros(end - begin)
     for cell, own in spans.items():
-        waits_here = waits[cell].to_numpy()
+        waits_here = waits[:, report.waiting.place(cell)]
         for first, last in own:
             sums[first - begin:last - begin] += waits_here[first:last]
-    most = int(sums.argmax())
+    most = first_greatest(sums)
     others = [Origin(cell, int(times[first]), _reach(report, cell, spans, int(times[first]))[1]) for first, cell in origins[1:]]
     return Queue(origin, int(times[begin]), None if end == len(times) - 1 else int(times[end]), farthest, reach,
                  int(times[reached]), float((sums * numpy.diff(times)[begin:end]).sum()), float(sums[most]),
@@ -248,8 +296,7 @@ def _queue(report: Report, spans: Spans, waits: pandas.DataFrame, spells: int) -
 
 def _ways(report: Report, origin: str, spans: Spans) -> dict[str, float]:
     """For each cell of the queue upstream of its origin the way from there to the cell's upstream end."""
-    units, graph = report.units, report.need_network().graph
-    kinds = report.need_network().kinds
+    units, kinds, ups = report.units, report.need_network().kinds, report.need_network().ups
 
     def length(cell: str) -> float:
         if kinds[cell] != "road":
@@ -259,7 +306,7 @@ def _ways(report: Report, origin: str, spans: Spans) -> dict[str, float]:
     ways, waiting = {origin: length(origin)}, [origin]
     while waiting:
         cell = waiting.pop()
-        for up in graph.predecessors(cell):
+        for up in ups[cell]:
             if up in spans and up not in ways:
                 ways[up] = ways[cell] + length(up)
                 waiting.append(up)

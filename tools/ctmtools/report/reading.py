@@ -2,108 +2,233 @@
 
 from __future__ import annotations
 
-import io
-from collections.abc import Sequence
+from collections.abc import Iterable
 from dataclasses import dataclass, field
 from functools import cached_property
 from pathlib import Path
+from typing import TYPE_CHECKING, NamedTuple
 
 import numpy
-import pandas
 
-from ..network_file.network import Network, read_bytes, read_network
+from ..arrays import Numbers, Wholes
+from ..files.kinds import kind_of
+from ..files.reading import read_bytes
+from ..network_file.checksums import check_network, of_runs, units_of
+from ..network_file.network import Network, network_of, read_network
 from ..problem import Problem
-from ..checksums import ADVICE, check_network, check_report, check_run, of_runs, units_of, unlike_network
+from ..texts.amounts import PARTS
 from ..units import Units, read_units, units_path
+from ..visible import visible
+from .checksums import ADVICE, check_report, check_run, unlike_network
+from .records import Records, TextRecords
+
+if TYPE_CHECKING:
+    import pandas
+
+MOST_HEAD = 100  # letters of a report's first line
 
 
-@dataclass
+class Amounts(NamedTuple):
+    """What the program says of each cell at the last step: what it holds, has got and let go, in vehicles, and vehicle-steps waited."""
+
+    n: Numbers
+    come: Numbers
+    gone: Numbers
+    wait: Numbers
+
+
+class Sums(NamedTuple):
+    """What the program says of the whole network at the last step, in vehicles, and the delay in vehicle-steps."""
+
+    inside: float
+    entered: float
+    left: float
+    delay: float
+
+
+@dataclass(eq=False, repr=False)
 class Report:
     """A report, with its units and its network where these are known.
 
-    `cells` is indexed by the cell's name and has n, come, gone (vehicles) and wait (vehicle-steps) at the last step.
-    `times` are the recorded steps; `occupancy` and `departed` are frames with a row for each of them and a column for
-    each cell: the vehicles that it holds then, and all that have gone out of it until then.
-    `total` has inside, entered, left (vehicles) and delay (vehicle-steps), which `delay_vehicle_hours` has in vehicle-hours.
+    `names` are those of the cells, and `amounts` what is said of each at the last step, which `cells` has as a frame; `sums`, and
+    `total` as a series, have inside, entered, left (vehicles) and delay (vehicle-steps), which `delay_vehicle_hours` has in vehicle-hours.
+    `records` are the recorded steps; what follows from them is worked out when it is first asked for.
     """
 
     steps: int
-    cells: pandas.DataFrame
-    total: pandas.Series
-    times: numpy.ndarray
-    occupancy: pandas.DataFrame
-    departed: pandas.DataFrame
+    names: list[str]
+    amounts: Amounts
+    sums: Sums
+    records: Records
     units: Units = field(default_factory=Units)
     network: Network | None = None
     name: str = ""
 
+    def __repr__(self) -> str:
+        recorded = f"recorded {len(self.times)} times" if self.recorded else "without records"
+        return f"<Report {self.title!r}: {len(self.names)} cells, {self.steps} steps, {recorded}>"
+
     @property
     def recorded(self) -> bool:
         """Whether the report has records, which a run with --every gives."""
-        return len(self.times) > 1
+        return len(self.records) > 1
+
+    @property
+    def times(self) -> Wholes:
+        """The recorded steps."""
+        return self.records.times
 
     @property
     def delay_vehicle_hours(self) -> float:
         """The delay of all cells in vehicle-hours, or the problem that the seconds of a step aren't known."""
         if not self.units.known:
-            raise Problem(f"{self.name}: the units aren't known, so the delay is {self.total.delay:g} vehicle-steps")
-        return float(self.units.hours(self.total.delay))
+            raise Problem(f"{self.name}: the units aren't known, so the delay is {self.sums.delay:g} vehicle-steps")
+        return float(self.units.hours(self.sums.delay))
 
     @property
     def title(self) -> str:
         """The title of the study, or the name of the file."""
-        return self.units.title or Path(self.name).stem
+        return self.units.title or visible(Path(self.name).stem)
+
+    @cached_property
+    def cells(self) -> pandas.DataFrame:
+        """n, come, gone (vehicles) and wait (vehicle-steps) at the last step, by the cell's name."""
+        import pandas  # here and below, so that a run of which no frame is asked doesn't load it
+
+        return pandas.DataFrame(self.amounts._asdict(), index=pandas.Index(self.names, name="cell"))
+
+    @cached_property
+    def total(self) -> pandas.Series:
+        """The sums, by name."""
+        import pandas
+
+        return pandas.Series(self.sums._asdict())
+
+    @cached_property
+    def vehicles(self) -> pandas.DataFrame:
+        """The vehicles that each cell holds: a row for each recorded step, a column for each cell."""
+        return self._by_time(self.records.vehicles / PARTS, self.times)
+
+    @cached_property
+    def left(self) -> pandas.DataFrame:
+        """All vehicles that have left each cell until each recorded step, as `vehicles`."""
+        return self._by_time(self.records.left / PARTS, self.times)
 
     @cached_property
     def flow(self) -> pandas.DataFrame:
-        """Vehicles a step that leave each cell between a recorded step and the next, indexed by the first of both."""
-        gone = self.departed.to_numpy()
-        return pandas.DataFrame(numpy.diff(gone, axis=0) / numpy.diff(self.times)[:, None],
-                                index=self.times[:-1], columns=self.departed.columns)
+        """Vehicles a step that leave each cell from a recorded step to the next, indexed by the first of both."""
+        return self._by_time(self.passed / self.lasting, self.times[:-1])
 
     @cached_property
     def held(self) -> pandas.DataFrame:
-        """Vehicles that each cell holds between a recorded step and the next, indexed as `flow`.
+        """Vehicles in each cell in the mean from a recorded step to the next, as `flow`."""
+        return self._by_time(self.spent / self.lasting, self.times[:-1])
 
-        Where each step is recorded this is what the cell holds at the step; else the mean of both ends.
-        """
-        n = self.occupancy.to_numpy()
-        each = numpy.diff(self.times) == 1
-        mean = numpy.where(each[:, None], n[:-1], (n[:-1] + n[1:]) / 2)
-        return pandas.DataFrame(mean, index=self.times[:-1], columns=self.occupancy.columns)
+    def _by_time(self, values: Numbers, times: Wholes) -> pandas.DataFrame:
+        import pandas
 
-    @cached_property
-    def waited(self) -> pandas.DataFrame:
-        """Vehicle-steps that each cell's vehicles wait between a recorded step and the next, indexed as `flow`.
-
-        Those of a cell add up to what the program says of it, `wait`. Where not each step is recorded it is divided by
-        what the cell holds beyond what leaves it, and where that is nowhere anything evenly.
-        """
-        lasting = numpy.diff(self.times)[:, None]
-        beyond = numpy.clip((self.held.to_numpy() - self.flow.to_numpy()) * lasting, 0, None)
-        whole = beyond.sum(axis=0)
-        parts = numpy.where(whole > 0, beyond / numpy.where(whole > 0, whole, 1), lasting / lasting.sum())
-        return pandas.DataFrame(parts * self.cells.wait.to_numpy(), index=self.times[:-1], columns=self.departed.columns)
+        return pandas.DataFrame(values, index=times, columns=self.names)
 
     @cached_property
-    def free_parts(self) -> pandas.DataFrame:
-        """The part of its own free-flow speed that each cell has from a recorded step to the next, indexed as `flow`.
+    def lasting(self) -> Wholes:
+        """The steps from each recorded step to the next, as a column."""
+        return numpy.diff(self.times)[:, None]
+
+    @cached_property
+    def passed(self) -> Numbers:
+        """Vehicles that leave each cell from a recorded step to the next: a row for each of these, a column for each cell."""
+        return numpy.diff(self.records.left, axis=0) / PARTS
+
+    @cached_property
+    def waited(self) -> Numbers:
+        """Vehicle-steps that each cell's vehicles wait from a recorded step to the next, as `passed`.
+
+        Those of a cell add up to what the program says of it, `wait`. Where each step is recorded they are what stays in the cell.
+        Else they are in proportion to what the cell would hold beyond what leaves it, had what it holds changed evenly, and where
+        that is nowhere anything evenly over time.
+        """
+        beyond = numpy.clip(self._held() - numpy.diff(self.records.left, axis=0), 0, None)
+        whole, wait = beyond.sum(axis=0), numpy.rint(self.amounts.wait * PARTS)
+        waited: Numbers = beyond * (wait / numpy.where(whole > 0, whole, 1))
+        if (lost := (whole <= 0) & (wait > 0)).any():
+            waited[:, lost] = self.lasting / self.lasting.sum() * wait[lost]
+        return waited / PARTS
+
+    @cached_property
+    def spent(self) -> Numbers:
+        """Vehicle-steps that are spent in each cell from a recorded step to the next, as `passed`.
+
+        Who leaves a cell has driven in it for a step, and all other time is waiting. An exit lets nobody go, so there it is what the
+        exit holds.
+        """
+        spent = self.passed + self.waited
+        if len(kept := self._exits):
+            spent[:, kept] = self._held()[:, kept] / PARTS
+        return spent
+
+    def _held(self) -> Numbers:
+        """The sums over the steps from a recorded step to the next of the parts in each cell, if these changed evenly between them."""
+        held = self.records.vehicles
+        sums: Numbers = held[:-1] * self.lasting + numpy.diff(held, axis=0) * ((self.lasting - 1) / 2)
+        return sums
+
+    @cached_property
+    def _exits(self) -> Wholes:
+        """The places of the exits, or without a network of cells that nobody leaves and in which nobody waits."""
+        if self.network is not None:
+            return numpy.flatnonzero([self.network.kinds.get(cell) == "exit" for cell in self.names])
+        return numpy.flatnonzero((self.amounts.gone == 0) & (self.amounts.wait == 0))
+
+    @cached_property
+    def free_parts(self) -> Numbers:
+        """The part of its own free-flow speed that each cell has from a recorded step to the next, as `passed`.
 
         It is 1 but where a speed limit holds.
         """
-        parts = pandas.DataFrame(1.0, index=self.times[:-1], columns=self.departed.columns)
+        parts = numpy.ones((len(self.times) - 1, len(self.names)))
         for cell, pace in (self.network.paces if self.network else {}).items():
-            parts[cell] = pace.mean(self.times)
+            if cell in self._numbers:  # of a part of the network
+                parts[:, self.place(cell)] = pace.mean(self.times)
         return parts
 
     @cached_property
-    def slowed(self) -> pandas.DataFrame:
-        """Vehicle-steps that those who leave each cell have lost by driving at its speed limit, indexed as `flow`.
+    def slowed(self) -> Numbers:
+        """Vehicle-steps that those who leave each cell have lost by driving at its speed limit, as `passed`.
 
         They are a part of what the program counts as delay, which is the time beyond one step in a cell.
         """
-        lasting = numpy.diff(self.times)[:, None]
-        return self.flow * (1 / self.free_parts - 1) * lasting
+        return self.passed * (1 / self.free_parts - 1)
+
+    @property
+    def lengths(self) -> Numbers:
+        """The length of each cell in km, or 1 where the seconds of a step aren't known; lacking where a cell has none, as a gate."""
+        if self.units.step is not None:
+            return numpy.array([self.units.length(cell) or numpy.nan for cell in self.names])
+        kinds = self.network.kinds if self.network else {}
+        return numpy.array([1.0 if kinds.get(cell, "road") == "road" else numpy.nan for cell in self.names])
+
+    @cached_property
+    def _numbers(self) -> dict[str, int]:
+        return {name: number for number, name in enumerate(self.names)}
+
+    def place(self, cell: str) -> int:
+        """The number of a cell, from 0."""
+        return self._numbers[cell]
+
+    def places(self, cells: Iterable[str]) -> Wholes:
+        """The numbers of cells, from 0."""
+        return numpy.array([self._numbers[cell] for cell in cells], dtype=int)
+
+    def part(self, places: Wholes) -> Report:
+        """The report of the cells with these numbers alone; the amounts of others aren't read for it."""
+        names = [self.names[place] for place in places.tolist()]
+        return Report(self.steps, names, Amounts(*(column[places] for column in self.amounts)), self.sums, self.records.of(places), self.units,
+                      self.network, self.name)
+
+    @cached_property
+    def waiting(self) -> Report:
+        """The report of those cells alone in which anyone has waited."""
+        return self.part(numpy.flatnonzero(self.amounts.wait > 0))
 
     def need_records(self) -> None:
         """The problem of a report without records, where there are none."""
@@ -126,6 +251,7 @@ def read_report(path: str | Path, units: str | Path | None = None, network: str 
     path = Path(path)
     content = read_bytes(path)
     report = report_of(content, str(path))
+    report.records.read()
     units_file = Path(units) if units else units_path(path)
     if units and not units_file.exists():
         raise Problem(f"{units_file}: no such file or directory")
@@ -133,7 +259,7 @@ def read_report(path: str | Path, units: str | Path | None = None, network: str 
     by_run = check_report(report, content, path, units_file)
     report.network = _network_beside(path, units_file, report, network)
     if by_run and report.network is not None:
-        check_run(report, report.network, network or report.units.network or path.with_suffix(".csv"))
+        check_run(report, report.network, network or report.units.network.path or path.with_suffix(".csv"))
     if report.network is not None and not report.units.known and not units:
         report.units = _units_of_network(report, network)
     if report.network is not None:
@@ -153,11 +279,19 @@ def _network_beside(path: Path, units_file: Path, report: Report, network: str |
         if what:
             raise Problem(f"{path}: isn't of the network {network}: {what}")
         return found
-    names = [units_file.parent / report.units.network] if report.units.network else []
-    for name in [*names, path.with_suffix(".csv")]:
+    named = units_file.parent / report.units.network.path if report.units.network.path else None
+    for name in filter(None, (named, path.with_suffix(".csv"))):
         if name.exists() and name != path:
-            return _fitting(read_network(name), report, name, units_file)
+            return _fitting(_named_network(name, units_file) if name == named else read_network(name), report, name, units_file)
     return None
+
+
+def _named_network(path: Path, units_file: Path) -> Network:
+    """The network that units name. They may name any file, so nothing of one that is no network is quoted."""
+    content = read_bytes(path) if path.is_file() else b""
+    if kind_of(path, content) != "a network":
+        raise Problem(f"{units_file}: names the network {path}, which is none; name the network's file with --network")
+    return network_of(content, str(path))
 
 
 def _fitting(network: Network, report: Report, name: Path, units_file: Path) -> Network | None:
@@ -170,51 +304,21 @@ def _fitting(network: Network, report: Report, name: Path, units_file: Path) -> 
 
 
 def report_of(content: bytes, name: str = "the report") -> Report:
-    """The report that the bytes spell, in vehicles and steps."""
-    head, _, rest = content.partition(b"\n")
-    terms = head.split(b",")
+    """The report that the bytes spell, in vehicles and steps, its records as they are asked for."""
+    head = content[:MOST_HEAD].partition(b"\n")[0]
+    terms, begin = head.split(b","), len(head) + 1
     if len(terms) != 3 or terms[0] != b"report":
         raise Problem(f"{name}: no report of ctm; `ctm-tools run` writes one")
     try:
         steps, count = int(terms[1]), int(terms[2])
-        first_cell = 0 if rest.startswith(b"cell,") else rest.index(b"\n", rest.rindex(b"\nat,") + 1) + 1
-        *lines, last = rest[first_cell:].decode("ascii").splitlines()
+        end = begin if content.startswith(b"cell,", begin) else content.index(b"\n", content.rindex(b"\nat,") + 1) + 1
+        *lines, last = content[end:].decode("ascii").splitlines()
         rows = [line.split(",") for line in lines]
         if len(rows) != count or any(row[0] != "cell" for row in rows) or not last.startswith("total,"):
             raise ValueError
         names = [row[1] for row in rows]
-        cells = pandas.DataFrame([[float(value) for value in row[2:6]] for row in rows],
-                                 index=pandas.Index(names, name="cell"), columns=["n", "come", "gone", "wait"])
-        total = pandas.Series(map(float, last.split(",")[1:]), index=["inside", "entered", "left", "delay"])
-        times, occupancy, departed = _records(rest[:first_cell], names)
-    except (ValueError, IndexError):
+        amounts = Amounts(*numpy.array([row[2:6] for row in rows], dtype=float).reshape(count, len(Amounts._fields)).T)
+        sums = Sums(*map(float, last.split(",")[1:]))
+    except (ValueError, IndexError, TypeError):
         raise Problem(f"{name}: this report is cut short or isn't one of ctm") from None
-    return Report(steps, cells, total, times, occupancy, departed, name=name)
-
-
-def _records(content: bytes, names: Sequence[str]) -> tuple[numpy.ndarray, pandas.DataFrame, pandas.DataFrame]:
-    """The recorded steps, and the frames of occupancies and of departed vehicles, of the lines of records."""
-    count = len(names)
-    first = content[:100 * count].split(b"\n", count)[:count]
-    if content and [line.split(b",")[2].decode() for line in first] != names:
-        raise ValueError
-    begins = _begins(content)
-    if len(begins) % count:
-        raise ValueError
-    times = numpy.array([int(content[begin:begin + 30].split(b",")[1]) for begin in begins[::count]], dtype=int)
-    rows = pandas.read_csv(io.BytesIO(content), header=None, usecols=[3, 4], engine="c", dtype="float64") if content else \
-        pandas.DataFrame({column: [] for column in (3, 4)})
-    if rows.isna().to_numpy().any():
-        raise ValueError
-    shape = (len(times), count)
-    return (times, pandas.DataFrame(rows[3].to_numpy(dtype=float).reshape(shape), index=times, columns=names),
-            pandas.DataFrame(rows[4].to_numpy(dtype=float).reshape(shape), index=times, columns=names))
-
-
-def _begins(content: bytes) -> numpy.ndarray:
-    """Where the lines of records begin."""
-    letters = numpy.frombuffer(content, numpy.uint8)
-    begins = numpy.append(0, numpy.flatnonzero(letters == ord("\n")) + 1)[:-1]
-    if any((letters[begins + place] != letter).any() for place, letter in enumerate(b"at,")):
-        raise ValueError
-    return begins
+    return Report(steps, names, amounts, sums, TextRecords(content, begin, end, names, name), name=name)

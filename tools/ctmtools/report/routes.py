@@ -4,8 +4,6 @@ from __future__ import annotations
 
 from collections.abc import Sequence
 
-import networkx
-
 from ..network_file.network import Network
 from ..problem import Problem
 from .reading import Report
@@ -19,12 +17,15 @@ def route_of(report: Report, start: str | None = None, end: str | None = None,
     where no end is given.
     """
     if road:
-        return road_of(report, road)
+        return cells_of_road(report, road)
     network = report.need_network()
+    cells: list[str]
     for cell in (start, end):
-        if cell is not None and cell not in network.cells.index:
+        if cell is not None and cell not in network.kinds:
             raise Problem(f"{report.name}: there is no cell {cell}")
     if start and end:
+        import networkx
+
         try:
             cells = networkx.shortest_path(network.graph, start, end)
         except networkx.NetworkXNoPath:
@@ -41,7 +42,7 @@ def route_of(report: Report, start: str | None = None, end: str | None = None,
     return cells
 
 
-def road_of(report: Report, road: str) -> list[str]:
+def cells_of_road(report: Report, road: str) -> list[str]:
     """The cells of a named road, or the problem that the units name no such road."""
     if road not in report.units.roads:
         known = ", ".join(report.units.roads) or "none"
@@ -54,9 +55,8 @@ def _follow(network: Network, start: str, back: bool = False) -> list[str]:
     chain, seen = [start], {start}
     while True:
         cell = chain[-1]
-        steps = network.graph.in_edges(cell, data="weight") if back else network.graph.out_edges(cell, data="weight")
-        ways = [(weight, up if back else down) for up, down, weight in steps]
-        following = max(ways, key=lambda way: way[0])[1] if ways else None
+        ways = network.ups[cell] if back else network.downs[cell]
+        following = max(ways, key=ways.__getitem__, default=None)
         if following is None or following in seen:
             return chain
         chain.append(following)
@@ -65,9 +65,9 @@ def _follow(network: Network, start: str, back: bool = False) -> list[str]:
 
 def main_route(network: Network) -> list[str]:
     """The longest of the chains that begin at gates, or at cells that nothing leads into, or anywhere."""
-    starts = [cell for cell in network.cells.index if network.kinds[cell] == "gate"]
-    starts = starts or [cell for cell in network.cells.index if network.graph.in_degree(cell) == 0]
-    chains = (_follow(network, start) for start in (starts or list(network.cells.index)[:1])[:500])
+    starts = [cell for cell, kind in network.kinds.items() if kind == "gate"]
+    starts = starts or [cell for cell in network.kinds if not network.ups[cell]]
+    chains = (_follow(network, start) for start in (starts or list(network.kinds)[:1])[:500])
     return max(chains, key=len)
 
 

@@ -4,7 +4,7 @@ from __future__ import annotations
 
 from collections.abc import Iterator
 
-from ..text_table import table
+from ..texts.text_table import table
 from .queues import CYCLES, SHORT, SHORT_STEPS, SLOW, Queue, is_short, queues_in
 from .reading import Report
 from .travel import road_times
@@ -19,16 +19,16 @@ HELD_UP = 1.005  # a road is told from so many times its travel time at free flo
 
 def page(report: Report) -> Iterator[str]:
     """The page of a report, as lines."""
-    units, total = report.units, report.total
+    units, total = report.units, report.sums
     queues = queues_in(report) if report.recorded else []
     end = f"{units.clock(0)} to {units.clock(report.steps)}" if units.known else f"{report.steps} steps"
     delay = units.hours(total.delay)
     each = ""
     if total.entered and units.step is not None:
-        each = f", {_lasting(total.delay * units.step / total.entered)} for each vehicle that came"
-    yield f"{report.title}: {end}, {len(report.cells)} cells"
+        each = f", {_lasting(total.delay * units.step / total.entered)} for each vehicle that entered"
+    yield f"{report.title}: {end}, {len(report.names)} cells"
     yield ""
-    yield f"Vehicles  {number_text(total.entered)} came, {number_text(total.left)} were served, {number_text(total.inside)} are still inside"
+    yield f"Vehicles  {number_text(total.entered)} entered, {number_text(total.left)} left, {number_text(total.inside)} are still inside"
     yield f"Delay     {number_text(delay)} {units.delay_unit}{each}"
     yield from _slowed(report)
     yield ""
@@ -44,7 +44,7 @@ def page(report: Report) -> Iterator[str]:
 def _slowed(report: Report) -> Iterator[str]:
     """What of the delay is lost by driving at the speed limits, where a run has any."""
     if report.recorded and report.need_network().paces:
-        lost = report.units.hours(report.slowed.to_numpy().sum())
+        lost = report.units.hours(report.slowed.sum())
         yield f"          {number_text(lost)} of these by driving at the speed limits, and not in queues"
 
 
@@ -179,22 +179,22 @@ def clock(report: Report, step: int) -> str:
 def _inside(report: Report, queues: list[Queue]) -> Iterator[str]:
     """What is still inside at the end: the vehicles in each queue that stands there, and how many drive."""
     kinds = report.need_network().kinds
-    inside = report.cells.n[[cell for cell in report.cells.index if kinds[cell] != "exit"]]
+    inside = report.amounts.n[[kinds[cell] != "exit" for cell in report.names]].sum()
     when = report.units.clock(report.steps) if report.units.known else "the end"
-    if inside.sum() < 0.001:
+    if inside < 0.001:
         yield f"Nothing is left inside at {when}."
         return
-    still = f"Still inside at {when}: {number_text(inside.sum())} vehicles"
+    still = f"Still inside at {when}: {number_text(inside)} vehicles"
     if not report.recorded:
         yield f"{still}. How many of them stand in queues isn't known, since the run has no records."
         return
     last = len(report.times) - 1
-    held = {i: inside[[cell for cell, spans in queue.spans.items() if spans[-1][1] == last]].sum()
+    held = {i: report.amounts.n[report.places(cell for cell, spans in queue.spans.items() if spans[-1][1] == last)].sum()
             for i, queue in enumerate(queues) if queue.end is None}
     if not held:
         yield f"{still}, none of them in a queue."
         return
-    most = sorted(held, key=lambda i: -held[i])
+    most = sorted(held, key=held.__getitem__, reverse=True)
     named = ", ".join(f"{number_text(held[i])} in that from {where(report, queues[i].origin)}" for i in most[:MOST_STANDING])
     more = most[MOST_STANDING:]
     rest = f", {number_text(sum(held[i] for i in more))} in {len(more)} more" if more else ""

@@ -8,22 +8,23 @@ from __future__ import annotations
 
 from collections.abc import Sequence
 from dataclasses import dataclass
+from typing import TYPE_CHECKING
 
-import networkx
 import numpy
-import pandas
 
+from ..arrays import Flags, Numbers, first_greatest, left_at
 from ..problem import Problem
-from .curves import left_at
+from ..texts.amounts import PARTS
 from .reading import Report
-from .routes import main_route, road_of
+from .routes import cells_of_road, main_route
 from .states import times
+
+if TYPE_CHECKING:
+    import pandas
 
 LEAST = 0.01  # vehicles; a recorded step in which fewer enter counts for nothing
 DIGITS = 9  # behind the point of a delay, beyond which is what differences leave of nothing
 DUST = 1e-6  # vehicles, a part: what rounding may leave
-
-Numbers = numpy.ndarray
 
 
 @dataclass(frozen=True)
@@ -38,7 +39,7 @@ class Trips:
     steps: Numbers
     free: Numbers
 
-    def of(self, chosen: Numbers) -> Trips:
+    def of(self, chosen: Flags) -> Trips:
         """Those of them that are chosen."""
         return Trips(self.entered[chosen], self.vehicles[chosen], self.steps[chosen], self.free[chosen])
 
@@ -78,28 +79,34 @@ def trips(report: Report, cells: Sequence[str]) -> Trips:
 
 def _arrivals(report: Report, cell: str) -> Numbers:
     """All vehicles that have come to a cell until each recorded step, with those that stood there at first."""
-    return (report.occupancy[cell] + report.departed[cell]).to_numpy()
+    place = report.place(cell)
+    arrivals: Numbers = (report.records.vehicles[:, place] + report.records.left[:, place]) / PARTS
+    return arrivals
 
 
 def _left(report: Report, cell: str, entered: Numbers) -> Numbers:
     """When those leave a cell that enter it at some moments, in steps; lacking where they don't."""
-    recorded = numpy.asarray(report.times, dtype=float)
-    departed = report.departed[cell].to_numpy()
+    recorded, place = numpy.asarray(report.times, dtype=float), report.place(cell)
+    # Nobody passes a cell in less than a step, and no moment is known behind the last one.
+    soonest = numpy.where(entered + 1 > recorded[-1], numpy.nan, entered + 1)
+    if report.amounts.wait[place] == 0 and (report.lasting == 1).all():
+        return soonest
+    departed = report.records.left[:, place] / PARTS
     numbers = numpy.interp(entered, recorded, _arrivals(report, cell)) - DUST
     left, = left_at(recorded, departed[None], numbers[None])
-    # Nobody passes a cell in less than a step, and no moment is known behind the last one.
-    soonest = entered + 1
-    return numpy.where(soonest > recorded[-1], numpy.nan, numpy.fmax(left, soonest) + 0 * left)
+    return numpy.maximum(left, soonest)
 
 
 def travel_times(report: Report, cells: Sequence[str], every: float | None = None) -> pandas.DataFrame:
     """A row for each span in which vehicles enter a chain of cells: how many, and the time that they need to its end.
 
     `every` is the length of a span in seconds (in steps where the step isn't known), by default the whole time. The
-    frame has `entered`, when the span begins, `vehicles`, `mean`, `least`, `most`, `free` and `delay` in minutes (or
+    frame has `time`, when the span begins, `entered`, how many vehicles, `mean`, `least`, `most`, `free` and `delay` in minutes (or
     steps), and `speed` in km/h where all lengths are known. What is lacking belongs to a span of which not all have
     arrived by the end. `free` is at the speed limits in force. `frame.attrs["units"]` names the units.
     """
+    import pandas
+
     units = report.units
     found, step = trips(report, cells), units.step
     width = (report.steps if every is None else every if step is None else every / step)
@@ -115,20 +122,20 @@ def travel_times(report: Report, cells: Sequence[str], every: float | None = Non
         bounds = (own.steps.min(), own.steps.max()) if own.mean == own.mean else (numpy.nan, numpy.nan)
         rows.append((span * width, own.vehicles.sum(), own.mean * scale, bounds[0] * scale, bounds[1] * scale,
                      own.mean_free * scale))
-    frame = pandas.DataFrame(rows, columns=["entered", "vehicles", "mean", "least", "most", "free"])
+    frame = pandas.DataFrame(rows, columns=["step", "entered", "mean", "least", "most", "free"])
     frame["delay"] = (frame["mean"] - frame["free"]).round(DIGITS) + 0.0  # and no -0
     frame["speed"] = length / (frame["mean"] / 60) if step is not None else numpy.nan
-    frame["step"] = frame["entered"]
-    frame["entered"] = times(units, frame["step"].to_numpy())
+    frame["step"] = frame.pop("step")  # behind the others
+    frame.insert(0, "time", times(units, frame["step"].to_numpy()))
     unit = "steps" if step is None else "min"
-    frame.attrs["units"] = {"vehicles": "vehicles", **dict.fromkeys(("mean", "least", "most", "free", "delay"), unit),
+    frame.attrs["units"] = {"entered": "vehicles", **dict.fromkeys(("mean", "least", "most", "free", "delay"), unit),
                             "speed": "km/h"}
     return frame
 
 
 @dataclass(frozen=True)
 class RoadTime:
-    """The travel time on a road in steps: at free flow, the mean, and the longest, of who entered at a step."""
+    """The travel time on a road in steps: at free flow, the mean, and the longest, of who entered at a step, the first of those who took so long."""
 
     road: str
     free: float
@@ -147,7 +154,7 @@ def road_times(report: Report) -> list[RoadTime]:
         driven = trips(report, cells)
         driven = driven.of(~numpy.isnan(driven.steps))
         if len(driven.steps):
-            most = int(driven.steps.argmax())
+            most = first_greatest(driven.steps)
             found.append(RoadTime(road, driven.mean_free, driven.mean, float(driven.steps[most]), float(driven.entered[most])))
     return sorted(found, key=lambda time: time.free - time.mean)
 
@@ -160,12 +167,14 @@ def chain_of(report: Report, begin: str | None = None, end: str | None = None, r
     if road:
         if begin or end:
             raise Problem("--road: say either a road or --from and --to")
-        return road_of(report, road)
+        return cells_of_road(report, road)
     if begin is None and end is None:
         return _driven(report, main_route(report.need_network()))
     if begin is None or end is None:
         raise Problem(f"--{'to' if end is None else 'from'}: is missing; both ends of a route are said")
     first, last = _cell_at(report, begin, "--from"), _cell_at(report, end, "--to")
+    import networkx  # here, so that a run of which no way is asked doesn't load it
+
     try:
         cells = networkx.shortest_path(report.need_network().graph, first, last)
     except networkx.NetworkXNoPath:

@@ -5,14 +5,17 @@ from __future__ import annotations
 from collections.abc import Sequence
 from dataclasses import dataclass
 
+import numpy
+
+from ..arrays import first_greatest
 from .queue_heads import Span
-from .queues import Queue, grown_from, queues_in, standing
+from .queues import Queue, grown_from, queues_in, stands
 from .reading import Report
 
 
 @dataclass(frozen=True)
 class Spill:
-    """A gate that a queue reached from the cell where it began: at which step, and the most vehicles that waited, with the step."""
+    """A gate that a queue reached from the cell where it began: at which step, and the most vehicles that waited, and when first."""
 
     origin: str
     gate: str
@@ -30,8 +33,9 @@ def spills(report: Report, queue: Queue) -> list[Spill]:
             continue
         origin, own = _met(report, queue, gate) if gate in began else (queue.origin, spans)
         if own:
-            waits = (report.held[gate] - report.flow[gate]).to_numpy()
-            most = max((step for begin, end in own for step in range(begin, end)), key=lambda step: waits[step])
+            waits = report.waiting.waited[:, report.waiting.place(gate)] / report.lasting[:, 0]
+            steps = numpy.concatenate([numpy.arange(begin, end) for begin, end in own])
+            most = steps[first_greatest(waits[steps])]
             found.append(Spill(origin, gate, int(report.times[own[0][0]]), float(waits[most]), int(report.times[most])))
     return found
 
@@ -41,7 +45,7 @@ def _met(report: Report, queue: Queue, gate: str) -> tuple[str, list[Span]]:
     parts = [(queue.origin, queue.start), *((other.cell, other.start) for other in queue.others)]
     for origin, start in parts:
         cells = grown_from(report, origin, queue.spans, start) if origin != gate else {}
-        both = [(max(one[0], two[0]), min(one[1], two[1])) for down in report.need_network().graph.successors(gate)
+        both = [(max(one[0], two[0]), min(one[1], two[1])) for down in report.need_network().downs[gate]
                 for one in cells.get(down, ()) for two in queue.spans[gate]]
         met = sorted((begin, end) for begin, end in both if begin < end)
         if met:
@@ -52,7 +56,7 @@ def _met(report: Report, queue: Queue, gate: str) -> tuple[str, list[Span]]:
 def spilled_queues(report: Report) -> list[tuple[Queue, Spill]]:
     """The queues that reached gates, with these; where nobody waits in a gate no queue is looked for."""
     gates = [cell for cell, kind in report.need_network().kinds.items() if kind == "gate"]
-    if not standing(report)[gates].to_numpy().any():
+    if not stands(report)[:, report.places(gates)].any():
         return []
     return [(queue, spill) for queue in queues_in(report) for spill in spills(report, queue)]
 

@@ -8,7 +8,7 @@ from functools import cache
 from typing import TYPE_CHECKING, Any
 
 from ..problem import Problem
-from .quantities import shown
+from ..texts.quantities import shown
 
 if TYPE_CHECKING:
     from pyproj import CRS, Transformer
@@ -17,11 +17,14 @@ Point = tuple[float, float]
 DEGREES = "EPSG:4326"  # longitude and latitude of GPS and of GeoJSON
 METRES = 1000.0  # in a km
 CODE = re.compile(r"(?i)epsg:\d+")
+FILES = re.compile(r"(?i)\binit\s*=|grids\s*=\s*(?!@null\b)|proj4_grids|parameterfile")  # by which a text has PROJ open a file of any name
 WRITTEN = re.compile(r"(?i)\s*(epsg:\d+|esri:\d+|urn:|\+proj=|[A-Z]+\[)")
 
 
 def system(text: str, key: str) -> CRS:
     """The coordinate system that a text names, by its code, its words for PROJ, its WKT or its whole name."""
+    if FILES.search(text):
+        raise Problem(f"{key}: names a file, and a coordinate system is taken without files, such as EPSG:25832")
     found = _known(text)
     if found is None or not WRITTEN.match(text) and _bare(found.name) != _bare(text):  # names that only begin so are taken
         raise Problem(f"{key}: expected a coordinate system such as EPSG:25832, found \"{text}\"")
@@ -67,9 +70,14 @@ def coded(points: Sequence[Point], text: str, key: str) -> tuple[str, list[Point
 
 def moved(points: Sequence[Point], source: str, target: str, key: str) -> list[Point]:
     """Points of one system in another, x or longitude first."""
+    from pyproj.exceptions import ProjError
+
     for text in (source, target):
         system(text, key)
-    across = _across(source, target)
+    try:
+        across = _across(source, target)
+    except ProjError:
+        raise Problem(f"{key}: no way is known from {source} to {target}") from None
     found: Any = [across.transform(x, y, errcheck=False) for x, y in points]
     for point, (x, y) in zip(points, found):
         if not (abs(x) < float("inf") and abs(y) < float("inf")):

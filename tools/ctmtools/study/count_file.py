@@ -9,14 +9,13 @@ from pathlib import Path
 import pandas
 
 from ..detectors.days import holidays_of
-from ..detectors.flows import HOUR
-from ..detectors.formats import VEHICLES
-from ..detectors.reading import hour_lines, kept_rows, left_lines
 from ..detectors.file_set import Files
-from ..detectors.table import named
-from ..detectors.selection import Wanted
+from ..detectors.formats import VEHICLES
+from ..detectors.options import Wanted
+from ..detectors.reading import hour_lines, kept_rows, left_lines
+from ..detectors.table import counted as counted_stations, named, named_days
 from ..problem import Problem
-from ..units import DAY
+from ..texts.quantities import DAY, HOUR
 
 
 @dataclass(frozen=True)
@@ -47,7 +46,7 @@ def counted(paths: Sequence[Path], wanted: Wanted, passes_midnight: bool) -> Cou
     """The rows of some files. Where the study passes midnight, the rows of the next day are taken too."""
     files = Files(paths, wanted, "has no rows of counts")
     if wanted.station is None and len(files.stations) > 1:
-        raise Problem(f"{files.name}: has several stations, {named(files.stations)}; choose one by station")
+        raise Problem(f"{files.name}: has {counted_stations(files.stations)}; choose one by station")
     lines = ["the times are taken as they are written, without their zone"] if files.zoned else []
     if not files.dated:
         if wanted.dates or wanted.holidays or wanted.zone:
@@ -88,11 +87,11 @@ def _chosen(files: Files) -> tuple[list[str], list[str]]:
     free = files.days.leave_out(holidays_of(wanted.holidays, years)) if wanted.holidays else []
     if not wanted.dates:
         if len(files.days.days) > 1:
-            raise Problem(f"{files.name}: has several days, {named(list(files.days.days))}; choose one by date, or several by dates")
+            raise Problem(f"{files.name}: has several days, {named_days(list(files.days.days))}; choose one by date, or several by dates")
         return list(files.days.days), []
     chosen = files.days.chosen(wanted.dates)
     if len(chosen) > 1 and wanted.average is None:
-        raise Problem(f"{files.name}: {len(chosen)} days are chosen, {named(chosen)}; say average = \"mean\" or \"median\"")
+        raise Problem(f"{files.name}: {len(chosen)} days are chosen, {named_days(chosen)}; say average = \"mean\" or \"median\"")
     return chosen, [text for text in free if text not in chosen]
 
 

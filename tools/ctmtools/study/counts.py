@@ -11,17 +11,15 @@ from pathlib import Path
 from typing import Any
 
 from ..detectors.days import ORDERS
-from ..detectors.flows import HOUR
+from ..detectors.options import Wanted
 from ..detectors.rules import rules_of
-from ..detectors.file_set import paths_of
-from ..detectors.selection import Wanted
 from ..problem import Problem
-from ..units import DAY
+from ..texts.quantities import DAY, HOUR, duration, file_name, number, shown, word
 from .count_file import Row, counted
 from .entries import Entries, list_of
+from .folder import files_beside
 from .plan import Flow
-from .quantities import duration, number, shown, word
-from .rounding import rounded_text
+from .scale import rounded_text
 from .times import Times
 
 MISSING = ("error", "zero", "interpolate")
@@ -42,9 +40,9 @@ class Count:
 
 def flows_of_counts(table: Entries, times: Times) -> list[Flow]:
     """The flows in vehicles/h that a table of the study takes from files of counts; tools/docs/counts.md has its keys."""
-    names = table.take("counts", _texts)
+    names = table.take("counts", _files)
     wanted = wanted_of(table)
-    found = counted(paths_of([times.folder / name for name in names]), wanted, times.passes_midnight)
+    found = counted(files_beside(times.path, names, table.key("counts")), wanted, times.passes_midnight)
     asked = Fraction(found.interval) if wanted.interval is None and found.interval is not None else wanted.interval
     interval = _interval(found.name, found.rows, asked, wanted.missing or "error")
     placed = [(row.seconds - times.start, row) for row in found.rows] if found.dated else _on_days(found.rows, interval, times)
@@ -94,6 +92,10 @@ def _text(value: Any, key: str) -> str:
 
 def _texts(value: Any, key: str) -> tuple[str, ...]:
     return tuple(list_of(word)(value, key)) if isinstance(value, list) else (word(value, key),)
+
+
+def _files(value: Any, key: str) -> tuple[str, ...]:
+    return tuple(list_of(file_name)(value, key)) if isinstance(value, list) else (file_name(value, key),)
 
 
 def _date(value: Any, key: str) -> str:

@@ -8,31 +8,36 @@ movements lead to, two of them are joined in a cell first.
 from __future__ import annotations
 
 from collections.abc import Sequence
+from copy import copy
 from dataclasses import replace
 from fractions import Fraction
 
 from ..network_file.faults import NAME
 from ..problem import Problem
+from ..texts.quantities import HOUR
 from .crossings import green, stop_line
+from .lane_use import LaneUse
 from .plan import (ActuatedJunction, ActuatedPhase, Crossing, Diverge, Matrix, Merge, Permission, Precedence, Road, Section,
-                   Signal, Stream, Study, Turn, Way, Yield)
-from .rounding import rounded_text
-from .ways import movements, named, road_of
+                   Signal, Stream, Scenario, Turn, Movement, Yield)
+from .movements import movement_name, movement_road, movements
+from .scale import rounded_text
 
-HOUR = 3600
+GROWING = ("roads", "links", "merges", "diverges", "signals", "actuated", "yields", "remarks")  # parts of a study that a junction adds to
 
 
-def expand(study: Study) -> None:
-    """Puts the cells, the merges, the diverges and the signals of all junctions among those of the study."""
+def expanded(study: Scenario) -> Scenario:
+    """The study with the cells, the merges, the diverges and the signals of all its junctions."""
     for crossing in study.crossings:
-        Expansion(study, crossing).put()
+        study = Expansion(study, crossing).made_of_cells()
+    return study
 
 
 class Expansion:
     """A junction in the making: the names of its cells, and how many each movement drives through."""
 
-    def __init__(self, study: Study, crossing: Crossing) -> None:
-        self.study, self.crossing = study, crossing
+    def __init__(self, study: Scenario, crossing: Crossing) -> None:
+        own = {name: copy(getattr(study, name)) for name in GROWING}
+        self.study, self.crossing = replace(study, **own), crossing
         self.movements = movements(crossing)
         self.steps = dict.fromkeys(self.movements, 1)
         self.made: list[str] = []
@@ -41,8 +46,8 @@ class Expansion:
         for name in crossing.into:
             self._known(name, [*study.roads, *study.exits], "into", "a road or an exit")
 
-    def put(self) -> None:
-        """Puts the junction's parts into the study, and a remark on what they take."""
+    def made_of_cells(self) -> Scenario:
+        """The study with the junction's parts, and a remark on what they take."""
         for movement in self.movements:
             cells = f"{self._cells(self.crossing.sources[movement[0]])}-{self._cells(self.crossing.into[movement[1]], 0)}"
             self._cell(self._name(movement), cells, *self._lane(movement), self._lanes_of(movement))
@@ -57,13 +62,14 @@ class Expansion:
         if self.crossing.within:
             self._take_off()
         self._tell()
+        return self.study
 
     def _known(self, name: str, names: Sequence[str], key: str, what: str) -> None:
         if name not in names:
             raise Problem(f"{self.crossing.place}.{key}: {name} isn't {what} of the study")
 
-    def _name(self, movement: Way) -> str:
-        return road_of(self.crossing, movement)
+    def _name(self, movement: Movement) -> str:
+        return movement_road(self.crossing, movement)
 
     def _cells(self, arm: str, end: int = -1) -> str:
         """An arm's name where a cell may have it, else the one of its cells, at the end of the road or at its start."""
@@ -80,7 +86,7 @@ class Expansion:
         road = self.study.roads.get(self.crossing.into[j])
         return road.sections[0] if road else None
 
-    def _lane(self, movement: Way) -> tuple[Section, int]:
+    def _lane(self, movement: Movement) -> tuple[Section, int]:
         """The section whose lane a movement's cell has, the approach's where it has one, and the fewest lanes of both."""
         found = [section for section in (self._approach(movement[0]), self._way_out(movement[1])) if section]
         if not found:
@@ -88,7 +94,7 @@ class Expansion:
                           f"{self.crossing.into[movement[1]]} there is no road of which a cell could be made")
         return found[0], min(section.lanes for section in found)
 
-    def _lanes_of(self, movement: Way) -> Fraction | None:
+    def _lanes_of(self, movement: Movement) -> Fraction | None:
         lanes = self.crossing.lanes
         return lanes[movement[0]][movement[1]] if lanes else None
 
@@ -105,7 +111,7 @@ class Expansion:
         self.made.append(name)
         return name
 
-    def _part(self, i: int, ways: list[Way]) -> None:
+    def _part(self, i: int, ways: list[Movement]) -> None:
         """Parts an approach into the cells of its movements."""
         source, number = self.crossing.sources[i], 0
         approach = source
@@ -122,7 +128,7 @@ class Expansion:
         else:
             self.study.links.append((source, self._name(ways[0]), self.crossing.place))
 
-    def _diverge(self, source: str, into: list[str], ways: Sequence[Way]) -> None:
+    def _diverge(self, source: str, into: list[str], ways: Sequence[Movement]) -> None:
         """Parts the first of the movements from the others, by their shares at all times."""
         turns = [Turn(begin, end, shares) for begin, end, table in self.crossing.turns
                  for shares in [self._shares(table, ways)] if any(shares)]
@@ -132,11 +138,11 @@ class Expansion:
                                            by_trips=self.crossing.by_trips))
 
     @staticmethod
-    def _shares(table: Matrix, ways: Sequence[Way]) -> list[Fraction]:
+    def _shares(table: Matrix, ways: Sequence[Movement]) -> list[Fraction]:
         (i, j), *others = ways
         return [table[i][j], sum((table[k][m] for k, m in others), Fraction(0))]
 
-    def _join(self, j: int, ways: list[Way]) -> None:
+    def _join(self, j: int, ways: list[Movement]) -> None:
         """Joins the cells of the movements that lead to a way out."""
         target = self.crossing.into[j]
         first, priority = self._name(ways[0]), self._priority(ways[0])
@@ -153,7 +159,7 @@ class Expansion:
         if len(ways) == 1:
             self.study.links.append((first, target, self.crossing.place))
 
-    def _priority(self, way: Way) -> Fraction:
+    def _priority(self, way: Movement) -> Fraction:
         """The priority of a movement; where none is said, the lanes of its cell."""
         if self.crossing.priorities:
             return self.crossing.priorities[way[0]][way[1]]
@@ -164,7 +170,7 @@ class Expansion:
         cycle = self.crossing.cycle
         if cycle is None:
             return
-        placed: dict[str, Way] = {}
+        placed: dict[str, Movement] = {}
         for movement in self.movements:
             placed.setdefault(self._stop_line(movement), movement)
         for place, movement in placed.items():
@@ -181,7 +187,7 @@ class Expansion:
         apart = next((way for way in self.movements if self._stop_line(way) != crossing.sources[way[0]]), None)
         if apart:
             raise Problem(f"{crossing.place}.phases: greens that follow traffic are of all movements of an approach; "
-                          f"{named(crossing, apart)} has one of its own, and needs an approach of its own")
+                          f"{movement_name(crossing, apart)} has one of its own, and needs an approach of its own")
         found = []
         for i, phase in enumerate(crossing.phases):
             behind = crossing.phases[(i + 1) % len(crossing.phases)].start + cycle * (i + 1 == len(crossing.phases))
@@ -192,20 +198,29 @@ class Expansion:
             found.append(ActuatedPhase([(road, None) for road in roads], phase.green, phase.actuation, pause))
         return ActuatedJunction(found, crossing.offset + crossing.phases[0].start, crossing.place)
 
-    def _stop_line(self, movement: Way) -> str:
+    def _stop_line(self, movement: Movement) -> str:
         return stop_line(self.crossing, movement)
 
     def _yield(self, one: Precedence) -> Yield:
         """Who gives way in the cell of a movement to those in the cells of others."""
         crossing = self.crossing
-        streams = [Stream(self._name(way), None, part, one.holds > 0 and way not in one.first,
-                          green(crossing, way) if crossing.phases else None, self._stop_line(way)) for way, part in one.others]
-        found = Yield(self._name(one.way), f"{one.place}, {named(crossing, one.way)}", streams, one.gaps, one.place, one.holds,
-                      one.stage if one.holds else None)
+        streams = [self._stream(one, way, part) for way, part in one.others]
+        found = Yield(self._name(one.way), f"{one.place}, {movement_name(crossing, one.way)}", streams, one.gaps, one.place, one.holds,
+                      one.stage if one.holds else None, shared=self._lane_use(one.way).shared(one.way))
         if crossing.cycle is not None:
             spans = [(phase.start, phase.start + phase.green) for phase in crossing.phases if one.way in phase.permitted]
             found.permission = Permission(crossing.cycle, crossing.offset, green(crossing, one.way), spans, one.sneakers)
         return found
+
+    def _stream(self, one: Precedence, way: Movement, part: Fraction) -> Stream:
+        """One of those with priority, at a signal with its green and its lanes."""
+        found = Stream(self._name(way), None, part, one.holds > 0 and way not in one.first)
+        if not self.crossing.phases:
+            return found
+        return replace(found, green=green(self.crossing, way), queue=self._lane_use(way).queue(way))
+
+    def _lane_use(self, way: Movement) -> LaneUse:
+        return LaneUse(self.crossing, way[0], self.study.roads)
 
     def _take_off(self) -> None:
         """Takes the fewest cells that one of an approach's movements drives through off its length."""
@@ -219,7 +234,7 @@ class Expansion:
             if length - section.start < cell / 2:
                 raise Problem(f"{self.crossing.place}.within: {source} has too few cells for it, of "
                               f"{float(cell) * 1000:g} m each")
-            road.length = length
+            self.study.roads[source] = replace(road, length=length)
 
     def _tell(self) -> None:
         """Says how long driving through takes."""

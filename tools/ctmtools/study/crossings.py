@@ -7,12 +7,12 @@ from fractions import Fraction
 from typing import Any
 
 from ..problem import Problem
+from ..texts.quantities import duration, not_negative, shown, word
 from .entries import Entries, Reader, list_of
-from .plan import Actuation, Crossing, Matrix, Phase, Way
-from .quantities import duration, not_negative, shown, word
+from .plan import Actuation, Crossing, Matrix, Movement, Phase
 from .precedences import check_precedence, precedence
 from .times import Times
-from .ways import movements, named, road_of, taken_ways
+from .movements import movement_name, movement_road, movements, taken_movements
 
 MOST_ARMS = 16
 _weight = not_negative("a number here")  # a share, a priority, or lanes
@@ -110,7 +110,7 @@ def _check_shares(table: Entries, found: Crossing) -> None:
     for i, j in movements(found):
         for name, numbers in (("priorities", found.priorities), ("lanes", found.lanes)):
             if numbers and not numbers[i][j]:
-                raise Problem(f"{table.key(name)}: the movement {named(found, (i, j))} has 0, and needs more")
+                raise Problem(f"{table.key(name)}: the movement {movement_name(found, (i, j))} has 0, and needs more")
 
 
 def _phase(table: Entries, found: Crossing, pause: Fraction) -> Phase:
@@ -119,7 +119,7 @@ def _phase(table: Entries, found: Crossing, pause: Fraction) -> Phase:
     start = table.take("start", duration, before.start + before.green + pause if before else Fraction(0))
     green = table.take("green", duration)
     ways = _ways(table, found)
-    permitted = taken_ways(table, "permitted", found)
+    permitted = taken_movements(table, "permitted", found)
     actuation = table.take("actuated", actuation_of, None)
     table.done()
     cycle = found.cycle or Fraction(0)
@@ -131,7 +131,7 @@ def _phase(table: Entries, found: Crossing, pause: Fraction) -> Phase:
         raise Problem(f"{table.place}: no movement is green in it")
     red = next((way for way in permitted if way not in ways), None)
     if red:
-        raise Problem(f"{table.key('permitted')}: the movement {named(found, red)} isn't green in it")
+        raise Problem(f"{table.key('permitted')}: the movement {movement_name(found, red)} isn't green in it")
     return Phase(start, green, ways, permitted, actuation)
 
 
@@ -167,16 +167,16 @@ def _check_phases(table: Entries, found: Crossing) -> None:
         return
     for movement in movements(found):
         if not any(movement in phase.movements for phase in found.phases):
-            raise Problem(f"{table.key('phases')}: the movement {named(found, movement)} is green in none")
+            raise Problem(f"{table.key('phases')}: the movement {movement_name(found, movement)} is green in none")
         green(found, movement)
 
 
-def green(found: Crossing, movement: Way) -> tuple[Fraction, Fraction]:
+def green(found: Crossing, movement: Movement) -> tuple[Fraction, Fraction]:
     """From when to when in the cycle a movement is green: its phases follow each other, since a signal has one green."""
     own = [phase for phase in found.phases if movement in phase.movements]
     places = [found.phases.index(phase) for phase in own]
     if not _follow(places, len(found.phases)):
-        raise Problem(f"{found.place}.phases: the movement {named(found, movement)} is green in phases that don't follow "
+        raise Problem(f"{found.place}.phases: the movement {movement_name(found, movement)} is green in phases that don't follow "
                       "each other, and a signal has one green in a cycle")
     first = next((k for k, place in enumerate(places) if (place - 1) % len(found.phases) not in places), 0)
     start, cycle = own[first].start, found.cycle or Fraction(0)
@@ -184,12 +184,12 @@ def green(found: Crossing, movement: Way) -> tuple[Fraction, Fraction]:
     return (Fraction(0), cycle) if len(own) == len(found.phases) > 1 else (start, max(ends))
 
 
-def stop_line(found: Crossing, movement: Way) -> str:
+def stop_line(found: Crossing, movement: Movement) -> str:
     """The road at whose end a movement's signal stands: its approach, where all of that is green together."""
     if not found.phases:
-        return road_of(found, movement)
+        return movement_road(found, movement)
     greens = {green(found, way) for way in movements(found) if way[0] == movement[0]}
-    return found.sources[movement[0]] if len(greens) == 1 else road_of(found, movement)
+    return found.sources[movement[0]] if len(greens) == 1 else movement_road(found, movement)
 
 
 def common_green(first: Phase, second: Phase, cycle: Fraction) -> Fraction:

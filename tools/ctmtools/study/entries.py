@@ -7,7 +7,7 @@ from collections.abc import Callable, Sequence
 from typing import Any, TypeVar, overload
 
 from ..problem import NoSuchKey, Problem
-from .quantities import shown
+from ..texts.quantities import shown, word
 
 MISSING = object()
 Value = TypeVar("Value")
@@ -51,7 +51,7 @@ class Entries:
     def tables(self, name: str) -> Sequence[tuple[str, Entries]]:
         """The named tables under a key, in the order of the file."""
         found = self.take(name, lambda value, key: Entries(value, key), None)
-        return [] if found is None else [(key, Entries(value, found.key(key))) for key, value in found.values.items()]
+        return [] if found is None else [(word(key, found.key(key)), Entries(value, found.key(key))) for key, value in found.values.items()]
 
     def list(self, name: str) -> Sequence[Entries]:
         """The tables of an array of tables."""

@@ -6,11 +6,12 @@ from collections.abc import Collection, Sequence
 from difflib import get_close_matches
 from fractions import Fraction
 
-from ..network_file.kinds import record_text
+from ..network_file.kinds import Record, record
 from ..problem import Problem
 from .layout import Layout, RoadCell
-from .plan import Diverge, Merge, RoadPart, Signal, Study
+from .plan import Diverge, Merge, Scenario, Signal
 from .scale import Scale
+from .times import RoadPart
 
 Boundary = tuple[str, int]  # a road and the number of its cells before the boundary
 
@@ -18,10 +19,10 @@ Boundary = tuple[str, int]  # a road and the number of its cells before the boun
 class Junctions:
     """The records of connectors and turns, and which cells each cell leads into."""
 
-    def __init__(self, study: Study, layout: Layout, scale: Scale) -> None:
+    def __init__(self, study: Scenario, layout: Layout, scale: Scale) -> None:
         self.study, self.layout, self.scale = study, layout, scale
-        self.connectors: list[str] = []
-        self.turns: list[str] = []
+        self.connectors: list[Record] = []
+        self.turns: list[Record] = []
         # For each cell the cells that its connector leads into, and the place in the study.
         self.out_of: dict[str, tuple[list[str], str]] = {}
         self.into: dict[str, str] = {}  # for each cell that something leads into the place in the study
@@ -108,7 +109,7 @@ class Junctions:
                 raise Problem(f"{place}: something leads into {down} already, by {self.into[down]}; a merge joins two "
                               "into one")
             self.into[down] = place
-        self.connectors.append(record_text(kind, *ups, *downs, *numbers))
+        self.connectors.append(record(kind, *ups, *downs, *numbers))
 
     def _roads(self, cut: Collection[Boundary]) -> None:
         """Links the cells of each road, but for the boundaries that ramps have taken."""
@@ -175,4 +176,4 @@ class Junctions:
             what = f"{diverge.place}.turns[{i}]"
             begin, end = self.scale.span(what, turn.start, turn.end)
             shares = self.scale.weights(f"{what}: share of the first", turn.shares)
-            self.turns.append(record_text("turn", up, begin, end, *shares))
+            self.turns.append(record("turn", up, begin, end, *shares))

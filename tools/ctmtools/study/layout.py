@@ -6,14 +6,13 @@ from collections.abc import Mapping, Sequence
 from dataclasses import dataclass
 from fractions import Fraction
 
-from ..amounts import rounded_parts
 from ..network_file.faults import NAME
-from ..network_file.kinds import NAME_RULE
+from ..network_file.kinds import MOST_RECORDS, NAME_RULE
 from ..problem import Problem
-from .plan import Road, Section, Study
-from .rounding import Rounding
-
-HOUR = 3600
+from ..texts.amounts import rounded_parts
+from ..texts.quantities import HOUR
+from .plan import Road, Section, Scenario
+from .scale import Rounding, rounded_text
 
 
 @dataclass
@@ -51,12 +50,13 @@ class Stretch:
 class Layout:
     """The cells of all roads of a study, in order, with the way from kilometres to boundaries of cells."""
 
-    def __init__(self, study: Study, rounding: Rounding) -> None:
+    def __init__(self, study: Scenario, rounding: Rounding) -> None:
         self.step = study.step
         self.stretches: dict[str, list[Stretch]] = {}
         self.cells: dict[str, list[RoadCell]] = {}
         for road in study.roads.values():
             self.stretches[road.name] = self._cut(road, rounding)
+        self._check_few()
         names = self._names(study)
         for road in study.roads.values():
             self.cells[road.name] = self._fill(road, names)
@@ -77,7 +77,19 @@ class Layout:
                           part.count * part.length, "km")
         return stretches
 
-    def _names(self, study: Study) -> dict[str, list[str]]:
+    def _check_few(self) -> None:
+        """Refuses more cells than a network can have, before they are made."""
+        counts = {road: sum(part.count for part in parts) for road, parts in self.stretches.items()}
+        count, most = sum(counts.values()), max(MOST_RECORDS.values())
+        if count <= most:
+            return
+        road = max(counts, key=lambda name: counts[name])
+        length = self.stretches[road][-1].end
+        raise Problem(f"roads.{road}.length: {rounded_text(length)} km make {counts[road]:,} cells of {count:,} in all, and a network "
+                      f"has at most {most:,} records; are metres meant? Then write \"{float(length):g} m\". Else a longer step "
+                      "makes fewer cells")
+
+    def _names(self, study: Scenario) -> dict[str, list[str]]:
         """The names of all cells by road: those of one name before the number are counted through the study.
 
         A name that ends with a digit has a point behind it, so that it isn't read as one number with the cell's.

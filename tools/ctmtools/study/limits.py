@@ -7,16 +7,16 @@ from fractions import Fraction
 from functools import partial
 from typing import Any
 
-from ..amounts import rounded_parts
-from ..network_file.kinds import record_text
+from ..network_file.kinds import Record, record
 from ..problem import Problem
+from ..texts.amounts import rounded_parts
+from ..texts.quantities import HOUR
 from ..units import clock_text
 from .capacities import Change, flow_left, lanes_left, least, most_opened, spans
 from .junctions import Junctions
-from .layout import HOUR, RoadCell
-from .plan import Closure, Exit, Gate, Opening, Study, Yield
-from .rounding import rounded_text
-from .scale import Scale
+from .layout import RoadCell
+from .plan import Closure, Exit, Gate, Opening, Scenario, Yield
+from .scale import Scale, rounded_text
 
 # The stretches of road in which changes overlap, each as its cells with these changes, by the places of the changes,
 # their time and the section.
@@ -31,7 +31,7 @@ class Limits:
     The records of a cell never overlap: each has what is left where all hold that hold at its steps.
     """
 
-    def __init__(self, study: Study, junctions: Junctions, scale: Scale) -> None:
+    def __init__(self, study: Scenario, junctions: Junctions, scale: Scale) -> None:
         self.study, self.junctions, self.scale = study, junctions, scale
         self.changes: dict[str, list[Change]] = {}  # for each gate, exit and cell what changes its capacity
         self._nodes()
@@ -48,7 +48,7 @@ class Limits:
         """Puts a change on a gate, an exit or a cell."""
         self.changes.setdefault(name, []).append(change)
 
-    def records(self) -> Iterator[str]:
+    def records(self) -> Iterator[Record]:
         """A record for each span of steps in which a gate, an exit or a cell has another capacity than its own."""
         for name in [*self.study.gates, *self.study.exits]:
             yield from self._records_of(name, least)
@@ -106,7 +106,7 @@ class Limits:
         lanes = cell.section.lanes + cell.opened
         cell.room = rounded_parts(cell.section.jam_density * lanes * (cell.end - cell.start))
 
-    def _records_of(self, name: str, flow_of: Callable[[Sequence[Change]], Fraction]) -> Iterator[str]:
+    def _records_of(self, name: str, flow_of: Callable[[Sequence[Change]], Fraction]) -> Iterator[Record]:
         """The records of a cell, with spans of one capacity that follow each other joined."""
         last: tuple[int, int, int] | None = None
         for begin, end, holding in spans(self.changes.get(name, ())):
@@ -115,10 +115,10 @@ class Limits:
                 last = last[0], end, parts
                 continue
             if last:
-                yield record_text("limit", name, *last)
+                yield record("limit", name, *last)
             last = begin, end, parts
         if last:
-            yield record_text("limit", name, *last)
+            yield record("limit", name, *last)
 
     def _overlapping(self, name: str) -> list[Span]:
         """The spans of a cell in which several closures, openings or limits hold; red lights and gaps aren't told."""

@@ -7,7 +7,7 @@ from dataclasses import replace
 
 from ..network_file.warnings import shortened, warnings_of
 from .network_text import Built, build
-from .plan import Study
+from .plan import Scenario
 
 
 def built_lines(built: Built) -> Iterator[str]:
@@ -26,6 +26,6 @@ def warned(built: Built) -> Iterator[str]:
         yield f"warning: {line}"
 
 
-def warned_before_runs(study: Study) -> Iterator[str]:
+def warned_before_runs(study: Scenario) -> Iterator[str]:
     """The warnings of a study of which each run works out what passes by giving way."""
     yield from warned(build(replace(study, yields=[replace(one, capacities=[]) for one in study.yields])))

@@ -1,4 +1,4 @@
-"""From a study to the text of its network file, its units, and what was rounded."""
+"""From a study to the text of its network file, its units, and what was rounded; its demand, step by step."""
 
 from __future__ import annotations
 
@@ -6,24 +6,23 @@ from collections import Counter
 from collections.abc import Iterable, Iterator
 from dataclasses import dataclass, field
 from fractions import Fraction
-from functools import cached_property
 from itertools import groupby
 
-from ..amounts import PARTS, rounded_parts
-from ..network_file.faults import NAME, first_fault
-from ..network_file.kinds import COUNTED, KINDS, MOST_RECORDS, NAME_RULE, headings, record_text
-from ..network_file.network import Network, fault_line, network_of
+from ..network_file.faults import NAME, fault_of_made
+from ..network_file.kinds import COUNTED, KINDS, MOST_RECORDS, NAME_RULE, Record, headings, record
+from ..network_file.network import Network, fault_line
 from ..network_file.records import read_records
 from ..problem import Problem
+from ..texts.amounts import PARTS, rounded_parts
+from ..texts.quantities import HOUR
 from ..units import Units, clock_text
-from .demands import demands
+from ..visible import visible
 from .junctions import Junctions
-from .layout import HOUR, Layout, RoadCell, Stretch
+from .layout import Layout, RoadCell, Stretch
 from .limits import Limits
-from .plan import Section, Study
+from .plan import Scenario, Section
 from .plausible import implausible
-from .rounding import Rounding, rounded_text
-from .scale import Scale
+from .scale import Rounding, Scale, rounded_text
 from .signals import Signals
 from .speeds import Speeds
 
@@ -34,24 +33,24 @@ FIXED = "are as long as `green` says in this network"
 
 @dataclass
 class Built:
-    """A network made of a study: the text of its file, its units, what was rounded, and remarks on what it is made of.
+    """A network made of a study, its units, what was rounded, and remarks on what it is made of.
 
     `warnings` are lines on what of the study isn't in the network, and on what in it can hardly be meant.
     """
 
-    text: str
+    network: Network = field(repr=False)
     units: Units
     rounding: Rounding = field(repr=False)
     remarks: list[str] = field(repr=False, default_factory=list)
     warnings: list[str] = field(repr=False, default_factory=list)
 
-    @cached_property
-    def network(self) -> Network:
-        """The built network, read from its text."""
-        return network_of(self.text.encode())
+    @property
+    def text(self) -> str:
+        """The text of the network's file."""
+        return self.network.content.decode()
 
 
-def build(study: Study, shares_follow: bool = False) -> Built:
+def build(study: Scenario, shares_follow: bool = False) -> Built:
     """The network of a study. Shares that go by trips are even in it, and refused where they aren't said to follow."""
     try:
         if study.by_trips and not shares_follow:
@@ -65,7 +64,7 @@ def build(study: Study, shares_follow: bool = False) -> Built:
 class Builder:
     """Makes the text of a study's network, sort by sort."""
 
-    def __init__(self, study: Study) -> None:
+    def __init__(self, study: Scenario) -> None:
         _check_names(study)
         self.study = study
         self.rounding = Rounding()
@@ -79,27 +78,24 @@ class Builder:
     def build(self) -> Built:
         """The built network."""
         sections = self.sections()
-        form = self.form([record for _, records in sections for record in records])
-        text = "\n".join([*self._head(), f"ctm,{form}", record_text("steps", self.scale.steps)]) + "\n"
-        text += "".join("\n".join(["", f"# {comment}", *records]) + "\n" for comment, records in sections if records)
-        _check(text)
+        records = [record("steps", self.scale.steps), *(one for _, own in sections for one in own)]
+        lines = [*self._head(), f"ctm,{form_of(records)}", records[0].text]
+        for comment, own in sections:
+            lines += ["", f"# {comment}", *(one.text for one in own)] if own else []
+        network = Network(self.scale.steps, records, "".join(f"{line}\n" for line in lines).encode())
+        _check(network)
         remarks = [*self.study.remarks, *self._opened(), *self.limits.overlaps(), *self.speeds.remarks(), *self.signals.remarks]
         warnings = [*self._left_out(), *self.speeds.idle(), *implausible(self.study, self.layout)]
-        return Built(text, self._units(), self.rounding, remarks, warnings)
+        return Built(network, self._units(), self.rounding, remarks, warnings)
 
-    def sections(self) -> list[tuple[str, list[str]]]:
+    def sections(self) -> list[tuple[str, list[Record]]]:
         """The records behind that of the steps, sort by sort, each sort with the comment that tells its fields."""
-        made: list[tuple[str, Iterable[str]]] = [
+        made: list[tuple[str, Iterable[Record]]] = [
             (headings("gate"), self._gates()), (headings("road"), self._roads()), (headings("exit"), self._exits()),
             (headings("link", "merge", "diverge", "turn"), [*self.junctions.connectors, *self.junctions.turns]),
             (headings("signal"), self.signals.records), (headings("limit"), self.limits.records()),
             (headings("speed"), self.speeds.records()), (headings("demand"), demands(self.study, self.scale))]
         return [(comment, list(records)) for comment, records in made]
-
-    def form(self, records: Iterable[str]) -> int:
-        """The first format that a file with these records may be of."""
-        found = list(records)
-        return max([2 if _is_large(found) else 1, *(KINDS[_kind_of(record)].form for record in found)])
 
     def _left_out(self) -> Iterator[str]:
         """What of the study isn't in the network: meters with feedback and who gives way."""
@@ -125,7 +121,7 @@ class Builder:
         """The comment that says the units."""
         study = self.study
         step = float(study.step)
-        yield f"{MADE} from {study.path.name}: {study.title}"
+        yield f"{MADE} from {visible(study.path.name)}: {study.title}"
         yield "#"
         yield (f"# A step is {step:g} s; step 0 is {clock_text(float(study.start))}. Amounts are vehicles, Q and "
                f"demand in a step: 1 is {3600 / step:g} vehicles/h.")
@@ -153,16 +149,16 @@ class Builder:
             raise Problem(f"{what}: is missing, and no road stands beside it")
         return sum(found)
 
-    def _gates(self) -> Iterator[str]:
+    def _gates(self) -> Iterator[Record]:
         for gate in self.study.gates.values():
             downs = self.junctions.led_to(gate.name)
             capacity = self._capacity(f"gates.{gate.name}.capacity", gate.capacity, downs)
-            yield record_text("gate", gate.name, capacity, rounded_parts(gate.first))
+            yield record("gate", gate.name, capacity, rounded_parts(gate.first))
 
-    def _roads(self) -> Iterator[str]:
+    def _roads(self) -> Iterator[Record]:
         for road, cells in self.layout.cells.items():
             for cell in cells:
-                yield record_text("road", cell.name, cell.room, cell.capacity, *cell.ratio.as_integer_ratio(), cell.first)
+                yield record("road", cell.name, cell.room, cell.capacity, *cell.ratio.as_integer_ratio(), cell.first)
             for part, section in zip(self.layout.stretches[road], self.study.roads[road].sections):
                 self._note_section(f"of road {road} from km {float(part.start):g}", section, cells[part.first], part)
 
@@ -174,15 +170,15 @@ class Builder:
         note(f"saturation flow {where}", section.saturation_flow * lanes,
              Fraction(cell.capacity, PARTS) * HOUR / self.study.step, "vehicles/h")
 
-    def _exits(self) -> Iterator[str]:
+    def _exits(self) -> Iterator[Record]:
         for exit_ in self.study.exits.values():
             ups = [up for up, (downs, _) in self.junctions.out_of.items() if exit_.name in downs]
             capacity = self._capacity(f"exits.{exit_.name}.capacity", exit_.capacity, ups)
-            yield record_text("exit", exit_.name, capacity)
+            yield record("exit", exit_.name, capacity)
 
     def _units(self) -> Units:
-        units = Units(self.study.title, float(self.study.step), float(self.study.start), cycles=self.signals.cycles,
-                      crs=self.study.crs)
+        units = Units(title=self.study.title, step=float(self.study.step), start=float(self.study.start), cycles=self.signals.cycles,
+                      crs=self.study.crs, date=None if self.study.date is None else self.study.date.isoformat())
         for road, row in self.layout.cells.items():
             units.roads[road] = [cell.name for cell in row]
             if self.study.roads[road].points:
@@ -195,7 +191,7 @@ class Builder:
         return units
 
 
-def _check_names(study: Study) -> None:
+def _check_names(study: Scenario) -> None:
     for name in [*study.gates, *study.exits]:
         if not NAME.fullmatch(name):
             raise Problem(f"{name}: a gate's or an exit's name is {NAME_RULE}")
@@ -203,20 +199,32 @@ def _check_names(study: Study) -> None:
             raise Problem(f"{name}: a road, a gate and an exit have names of their own")
 
 
-def _kind_of(record: str) -> str:
-    return record.partition(",")[0]
+def form_of(records: Iterable[Record]) -> int:
+    """The first format that a file with these records may be of."""
+    counts = Counter(record.kind for record in records)
+    sorts = Counter(record.sort for record in records)
+    forms = [KINDS[kind].form for kind in counts]
+    return max([2 if any(sorts[sort] > MOST_RECORDS[1] for sort in COUNTED) else 1, *forms])
 
 
-def _is_large(records: Iterable[str]) -> bool:
-    """Whether a network has more records of a sort than format 1 allows."""
-    counts = Counter(KINDS[_kind_of(record)].sort for record in records)
-    return any(counts[sort] > MOST_RECORDS[1] for sort in COUNTED)
-
-
-def _check(text: str) -> None:
+def _check(network: Network) -> None:
     """The problem of a built network that the program would refuse, as one with too many cells."""
-    content = text.encode()
-    records = read_records(content)
-    fault = first_fault(records)
+    fault = fault_of_made(form_of(network.records), network.records)
     if fault:
-        raise Problem("the built network has a fault: " + fault_line(content, records, fault))
+        raise Problem("the built network has a fault: " + fault_line(network.content, read_records(network.content), fault))
+
+
+def demands(study: Scenario, scale: Scale) -> Iterator[Record]:
+    """A record for each flow that comes to a gate before the study's end."""
+    lasting = study.duration
+    for gate in study.gates.values():
+        asked = modelled = Fraction(0)
+        for i, demand in enumerate(gate.demand, 1):
+            what = f"gates.{gate.name}.demand[{i}]"
+            begin, end = scale.span(what, demand.start, min(demand.end, lasting))
+            parts = scale.flow(what, demand.flow)
+            asked += demand.flow * (min(demand.end, lasting) - demand.start) / HOUR
+            modelled += Fraction(parts * (min(end, scale.steps) - begin), PARTS)
+            if parts:
+                yield record("demand", gate.name, begin, end, parts)
+        scale.rounding.note(f"vehicles that come to gate {gate.name}", asked, modelled, "vehicles")

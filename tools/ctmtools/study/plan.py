@@ -2,13 +2,13 @@
 
 from __future__ import annotations
 
+import datetime
 from dataclasses import dataclass, field
 from fractions import Fraction
 from pathlib import Path
-from typing import TYPE_CHECKING
 
-if TYPE_CHECKING:
-    from ..uncertainty.uncertainty import Uncertainty
+from .times import RoadPart
+from .uncertainty import Uncertainty
 
 
 @dataclass
@@ -133,7 +133,7 @@ class Signal:
 
 
 Matrix = list[list[Fraction]]  # a row for each approach, with a number for each way out
-Way = tuple[int, int]  # a movement of a junction: the numbers of its approach and of its way out
+Movement = tuple[int, int]  # a movement of a junction: the numbers of its approach and of its way out
 
 
 @dataclass(frozen=True)
@@ -157,14 +157,22 @@ class Precedence:
     before it, and `stage` the gaps of each of both stages. `sneakers` are the vehicles that turn at the end of a green.
     """
 
-    way: Way
-    others: list[tuple[Way, Fraction]]
+    way: Movement
+    others: list[tuple[Movement, Fraction]]
     gaps: Gaps
     holds: int
-    first: list[Way]
+    first: list[Movement]
     stage: Gaps
     sneakers: Fraction
     place: str
+
+
+@dataclass(frozen=True)
+class Lanes:
+    """So many lanes of an approach, and the roads of one cell of the movements that stand in them."""
+
+    count: int
+    roads: list[str]
 
 
 @dataclass(frozen=True)
@@ -172,7 +180,7 @@ class Stream:
     """A stream with priority: the road or the gate that it leaves, at a km or at its end, and the part that counts.
 
     In the second stage it is crossed behind the median. At a signal it is green from and to some seconds of the cycle, and waits
-    at the end of the road `queue`.
+    in the lanes of its `queue`.
     """
 
     road: str
@@ -180,7 +188,7 @@ class Stream:
     part: Fraction = Fraction(1)
     second: bool = False
     green: tuple[Fraction, Fraction] | None = None
-    queue: str = ""
+    queue: Lanes | None = None
 
 
 @dataclass(frozen=True)
@@ -201,7 +209,7 @@ class Permission:
 class Yield:
     """Who leaves a road at its end, or a gate, gives way to some streams, and what passes by time, once that is known.
 
-    `holds` and `stage` are those of a median, as of a `Precedence`.
+    `holds` and `stage` are those of a median, as of a `Precedence`. `shared` are the lanes that it shares with other movements.
     """
 
     road: str
@@ -212,6 +220,7 @@ class Yield:
     holds: int = 0
     stage: Gaps | None = None
     permission: Permission | None = None
+    shared: Lanes | None = None
     capacities: list[Flow] | None = None
 
 
@@ -258,8 +267,8 @@ class Phase:
 
     start: Fraction
     green: Fraction
-    movements: list[Way]
-    permitted: list[Way] = field(default_factory=list)
+    movements: list[Movement]
+    permitted: list[Movement] = field(default_factory=list)
     actuation: Actuation | None = None
 
 
@@ -285,18 +294,6 @@ class Crossing:
     place: str
     by_trips: bool = False
     yields: list[Precedence] = field(default_factory=list)
-
-
-@dataclass
-class RoadPart:
-    """A part of a road between two km and two times, and where the study says it."""
-
-    road: str
-    start_km: Fraction
-    end_km: Fraction | None
-    start: Fraction
-    end: Fraction
-    place: str
 
 
 @dataclass
@@ -388,11 +385,11 @@ class Routing:
 
 
 @dataclass
-class Study:
+class Scenario:
     """A study: its step in s, the clock time of its start in s after midnight, its duration in s, and its parts.
 
     `remarks` are lines on what was read beside its file. `crs` is the coordinate system in metres in which the points of
-    its roads lie, where that is known. What is `uncertain` of it only draws heed.
+    its roads lie, where that is known. `date` is the day on which it begins, where it says one. What is `uncertain` of it only draws heed.
     """
 
     title: str
@@ -414,6 +411,7 @@ class Study:
     meters: list[Meter] = field(default_factory=list)
     speed_limits: list[SpeedLimit] = field(default_factory=list)
     crs: str | None = None
+    date: datetime.date | None = None
     uncertain: Uncertainty | None = None
     trips: list[Trips] = field(default_factory=list)
     routes: list[Route] = field(default_factory=list)

@@ -11,9 +11,9 @@ from ..network_file.warnings import MOST_OF_A_KIND
 from ..units import clock_text
 from .crossings import common_green
 from .layout import Layout
-from .plan import Crossing, Gate, Section, Study
-from .rounding import rounded_text
-from .ways import named
+from .plan import Crossing, Gate, Scenario, Section
+from .movements import movement_name
+from .scale import rounded_text
 
 LONGEST = 200  # km of a road
 MOST_CELLS = 20_000
@@ -27,7 +27,7 @@ LANES = {
 SLOWEST = 40  # km/h on a road of several lanes
 
 
-def implausible(study: Study, layout: Layout) -> Iterator[str]:
+def implausible(study: Scenario, layout: Layout) -> Iterator[str]:
     """A line for each value of a study that no road has, with what may be meant."""
     for road in study.roads.values():
         if road.length > LONGEST:
@@ -53,7 +53,7 @@ def _first_few(lines: list[str], what: str) -> list[str]:
     return lines[:MOST_OF_A_KIND] + ([f"and {more} more {what}"] if more > 0 else [])
 
 
-def _holes(study: Study, gate: Gate) -> Iterator[str]:
+def _holes(study: Scenario, gate: Gate) -> Iterator[str]:
     """The times between the rows of a gate's demand in which nobody comes; where that is meant a row says 0."""
     end = None
     for row in sorted(gate.demand, key=lambda row: row.start) if not gate.counted else ():
@@ -72,7 +72,7 @@ def _conflicts(found: Crossing) -> Iterator[str]:
                      if one[0] != two[0] and (one, two) not in together), None)
         if seconds and pair:
             yield (f"{found.place}.phases: phases {i} and {j} by their start are both green for {rounded_text(seconds)} s of each cycle, with "
-                   f"{named(found, pair[0])} and {named(found, pair[1])}, which no phase has together")
+                   f"{movement_name(found, pair[0])} and {movement_name(found, pair[1])}, which no phase has together")
 
 
 def _lanes(section: Section) -> Iterator[str]:

@@ -7,11 +7,11 @@ from fractions import Fraction
 from typing import Any
 
 from ..problem import Problem
+from ..texts.quantities import duration, number, shown, whole, word
 from .entries import Entries, list_of
 from .gap_kinds import A_STAGE, KINDS, THREE_LEGS, GapKind
-from .plan import Crossing, Gaps, Merge, Precedence, Stream, Study, Way, Yield
-from .quantities import duration, number, shown, whole, word
-from .ways import named, taken_ways, way_of
+from .plan import Crossing, Gaps, Merge, Movement, Precedence, Scenario, Stream, Yield
+from .movements import movement_name, movement_of, taken_movements
 
 SNEAKERS = Fraction(2)  # vehicles that turn at the end of a green, HCM 2010, chapter 31
 CONTROLS = ("stop", "give_way")
@@ -24,12 +24,12 @@ LEAST_FOLLOW_UP, MOST_GAP = Fraction(1, 10), 3600  # s
 
 def precedence(table: Entries, found: Crossing) -> Precedence:
     """To whom a movement of a junction gives way, and by which gaps."""
-    way = table.take("movement", lambda value, key: way_of(value, key, found))
+    way = table.take("movement", lambda value, key: movement_of(value, key, found))
     others = table.take("yields_to", list_of(lambda value, key: _other(value, key, found)))
     _check_others(table, found, way, [other for other, _ in others])
     _check_keys(table, found)
     gaps = _gaps(table, "permitted-left" if found.cycle is not None else None)
-    holds, first = table.take("median", whole, 0), taken_ways(table, "first", found)
+    holds, first = table.take("median", whole, 0), taken_movements(table, "first", found)
     stage = _stage(table, gaps, holds)
     sneakers = table.take("sneakers", number, SNEAKERS)
     table.done()
@@ -43,13 +43,13 @@ def precedence(table: Entries, found: Crossing) -> Precedence:
     return Precedence(way, others, gaps, holds, first, stage, sneakers, table.place)
 
 
-def _check_others(table: Entries, found: Crossing, way: Way, others: list[Way]) -> None:
+def _check_others(table: Entries, found: Crossing, way: Movement, others: list[Movement]) -> None:
     """Refuses a movement that gives way to nobody, to itself, or twice to the same."""
     if not others or way in others:
         raise Problem(f"{table.key('yields_to')}: expected other movements than its own, one or more")
     twice = next((other for i, other in enumerate(others) if other in others[:i]), None)
     if twice:
-        raise Problem(f"{table.key('yields_to')}: {named(found, twice)} stands twice; a third entry is the part of a flow that counts")
+        raise Problem(f"{table.key('yields_to')}: {movement_name(found, twice)} stands twice; a third entry is the part of a flow that counts")
 
 
 def _check_keys(table: Entries, found: Crossing) -> None:
@@ -64,14 +64,14 @@ def _check_keys(table: Entries, found: Crossing) -> None:
         raise Problem(f"{table.key('stage_gap')}: goes with median, the vehicles that wait between both stages")
 
 
-def _other(value: Any, key: str, found: Crossing) -> tuple[Way, Fraction]:
+def _other(value: Any, key: str, found: Crossing) -> tuple[Movement, Fraction]:
     """A movement with priority, and the part of its flow that counts, 1 where no third entry says it."""
     if not isinstance(value, list) or len(value) not in (2, 3):
         raise Problem(f"{key}: expected [from, into] or [from, into, part], found {shown(value)}")
     part = number(value[2], f"{key}[3]") if len(value) == 3 else Fraction(1)
     if not 0 < part <= MOST_PART:
         raise Problem(f"{key}[3]: the part of a flow that counts is above 0 and at most {MOST_PART}")
-    return way_of(value[:2], key, found), part
+    return movement_of(value[:2], key, found), part
 
 
 def _gaps(table: Entries, usual: str | None) -> Gaps:
@@ -128,38 +128,39 @@ def check_precedence(found: Crossing) -> None:
     ways = [one.way for one in found.yields]
     for i, one in enumerate(found.yields):
         if one.way in ways[:i]:
-            raise Problem(f"{one.place}.movement: {named(found, one.way)} gives way already")
+            raise Problem(f"{one.place}.movement: {movement_name(found, one.way)} gives way already")
         if found.phases and not any(one.way in phase.permitted for phase in found.phases):
-            raise Problem(f"{one.place}.movement: {named(found, one.way)} is permitted in no phase; phases with signals say "
+            raise Problem(f"{one.place}.movement: {movement_name(found, one.way)} is permitted in no phase; phases with signals say "
                           "in which greens it gives way, permitted = [[from, into], ..]")
     for i, phase in enumerate(found.phases, 1):
         strange = next((way for way in phase.permitted if way not in ways), None)
         if strange:
-            raise Problem(f"{found.place}.phases[{i}].permitted: {named(found, strange)} gives way to nobody; `yields` says to "
+            raise Problem(f"{found.place}.phases[{i}].permitted: {movement_name(found, strange)} gives way to nobody; `yields` says to "
                           "whom it does")
 
 
-def take_precedence(table: Entries, merge: Merge) -> None:
-    """Takes to whom the other of two streams that merge gives way."""
-    merge.yields_to = table.take("yields_to", word, None)
+def precedence_at_merge(table: Entries, merge: Merge) -> tuple[str | None, Gaps | None]:
+    """To whom the other of two streams that merge gives way, and by which gaps; none of both where nobody does."""
+    yields_to = table.take("yields_to", word, None)
     gaps = _gaps(table, MERGE_KIND)
-    if merge.yields_to is None:
+    if yields_to is None:
         idle = next((name for name in OF_GAPS if table.has(name)), None)
         if idle:
             raise Problem(f"{table.key(idle)}: goes with yields_to, which names the one of both that has priority")
-        return
-    if merge.yields_to not in merge.sources:
-        raise Problem(f"{table.key('yields_to')}: expected {' or '.join(merge.sources)}, found {merge.yields_to}")
-    if merge.at is not None and merge.yields_to != merge.sources[0]:
+        return None, None
+    if yields_to not in merge.sources:
+        raise Problem(f"{table.key('yields_to')}: expected {' or '.join(merge.sources)}, found {yields_to}")
+    if merge.at is not None and yields_to != merge.sources[0]:
         raise Problem(f"{table.key('yields_to')}: a ramp gives way to its road, {merge.sources[0]}")
-    merge.gaps = gaps
+    return yields_to, gaps
 
 
-def put_merges(study: Study) -> None:
-    """Puts those who give way at merges and on-ramps among those of the study."""
-    for merge in study.merges:
-        if merge.yields_to is not None and merge.gaps is not None:
-            first = merge.sources.index(merge.yields_to)
-            own = merge.sources[1 - first]
-            study.yields.append(Yield(own, f"{merge.place}, {own}", [Stream(merge.yields_to, merge.at)], merge.gaps,
-                                      merge.place))
+def with_merges(study: Scenario) -> Scenario:
+    """The study with those who give way at merges and on-ramps."""
+    return replace(study, yields=[*study.yields, *(_at_merge(merge, merge.yields_to, merge.gaps) for merge in study.merges
+                                                   if merge.yields_to is not None and merge.gaps is not None)])
+
+
+def _at_merge(merge: Merge, yields_to: str, gaps: Gaps) -> Yield:
+    own = merge.sources[1 - merge.sources.index(yields_to)]
+    return Yield(own, f"{merge.place}, {own}", [Stream(yields_to, merge.at)], gaps, merge.place)

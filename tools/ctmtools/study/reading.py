@@ -2,31 +2,42 @@
 
 from __future__ import annotations
 
+import re
 import tomllib
+from dataclasses import replace
 from fractions import Fraction
 from pathlib import Path
-from typing import Any
+from typing import Any, TypedDict
 
-from ..file_kinds import read_as
+from ..files.kinds import read_as
 from ..problem import Problem, one_line
-from ..uncertainty.uncertainty import uncertainty_of
-from ..units import DAY
+from ..texts.quantities import DAY, clock, day, density, duration, exact, flow, lanes, length, number, shown, speed, whole, word
+from ..visible import visible
 from .coordinates import check_degrees, code, flat
-from .counts import flows_of_counts
-from .crossing_cells import expand
+from .crossing_cells import expanded
 from .crossings import actuation_of, crossing
 from .entries import Entries, Reader, list_of
-from .following import put_actuated_signals
-from .plan import (Closure, Diverge, Exit, Flow, Gate, Merge, Meter, Opening, Road, RoadPart, Section, Signal, SpeedLimit,
-                   Study, Turn)
-from .precedences import put_merges, take_precedence
-from .quantities import clock, density, duration, exact, flow, lanes, length, number, shown, speed, title, whole, word
+from .plan import (Closure, Diverge, Exit, Flow, Gate, Merge, Meter, Opening, Road, Section, Signal, SpeedLimit,
+                   Scenario, Turn)
+from .precedences import precedence_at_merge, with_merges
+from .signals import with_actuated_signals
 from .slips import slip_hint
-from .times import Times
-from .trips import put_demand, read_trips
+from .times import Period, Times, road_part
+from .trips import read_trips, with_demand
+from .uncertainty import uncertainty_of
 
 LANE = ("free_flow_speed", "wave_speed", "jam_density", "saturation_flow")
+MOST_NAMES = 100  # of a key with points; for one the work of a reader of TOML grows with their square or their cube
+LONG_KEY = re.compile(rf"""(?<![\w-])(?:(?:[\w-]+|"[^"\n]*"|'[^'\n]*')[ \t]*\.[ \t]*){{{MOST_NAMES}}}""")
 BY_TIME = "a road has one free-flow speed of its own; say a number, and lower speeds by time as [[speed_limits]]"
+
+
+class Joints(TypedDict):
+    """What joins roads, but for junctions."""
+
+    links: list[tuple[str, str, str]]
+    merges: list[Merge]
+    diverges: list[Diverge]
 
 
 def _free_flow_speed(value: Any, key: str) -> Fraction:
@@ -42,21 +53,30 @@ LANE_READERS: dict[str, Reader[Fraction]] = {"free_flow_speed": _free_flow_speed
 
 def read_values(path: str | Path) -> dict[str, Any]:
     """The values of a study file as TOML has them, with each decimal number as an exact fraction."""
-    content = read_as(path, "a study")
+    return values_of(read_as(path, "a study"), path)
+
+
+def values_of(content: bytes, path: str | Path) -> dict[str, Any]:
+    """The values that the bytes of a study file spell."""
     try:
-        return tomllib.loads(content.decode("utf-8-sig"), parse_float=exact)
+        text = content.decode("utf-8-sig")
+        if LONG_KEY.search(text):
+            raise Problem(f"{path}: has a key of more than {MOST_NAMES} names")
+        return tomllib.loads(text, parse_float=exact)
     except UnicodeDecodeError:
         raise Problem(f"{path}: a study file is UTF-8; save it so") from None
+    except RecursionError:
+        raise Problem(f"{path}: is nested too deeply") from None
     except (tomllib.TOMLDecodeError, ValueError) as error:
         raise Problem(f"{path}: {one_line(error)}{slip_hint(content, str(error))}") from None
 
 
-def read_study(path: str | Path) -> Study:
+def read_scenario(path: str | Path) -> Scenario:
     """The study in a file; see ctmtools.study.plan for its units."""
-    return study_of(read_values(path), Path(path))
+    return scenario_of(read_values(path), Path(path))
 
 
-def study_of(values: dict[str, Any], path: Path) -> Study:
+def scenario_of(values: dict[str, Any], path: Path) -> Scenario:
     """The study of the values of a study file. Its path tells where files of counts stand."""
     try:
         return _study(Entries(values, ""), path)
@@ -64,61 +84,67 @@ def study_of(values: dict[str, Any], path: Path) -> Study:
         raise type(problem)(f"{path}: {problem}") from None
 
 
-def _study(entries: Entries, path: Path) -> Study:
-    start = entries.take("start", clock, Fraction(0))
-    study = Study(entries.take("title", title, path.stem), entries.take("step", duration), start,
-                  _duration_of(entries, start), {}, {}, {}, [], [], [], [], [], [], [], path)
-    if study.step == 0:
-        raise Problem("step: must be above 0")
-    times = Times(study)
-    read_trips(entries, study, times, _flows(times, "demand"))
-    lane: dict[str, Fraction] = entries.take("lane", lambda value, key: _lane(Entries(value, key)), {})
-    for name, table in entries.tables("roads"):
-        study.roads[name] = _road(name, table, lane)
-    _locate(study, entries.take("crs", code, None))
-    for name, table in entries.tables("gates"):
-        study.gates[name] = _gate(name, table, times)
-    for name, table in entries.tables("exits"):
-        study.exits[name] = _exit(name, table, times)
-    study.links = [_link(table) for table in entries.list("links")]
-    study.merges = [_merge(table) for table in entries.list("merges")]
-    study.merges += [_on_ramp(table) for table in entries.list("on_ramps")]
-    study.diverges = [_diverge(table, times, bool(study.trips)) for table in entries.list("diverges")]
-    study.diverges += [_off_ramp(table, times, bool(study.trips)) for table in entries.list("off_ramps")]
-    study.signals = [signal for table in entries.list("signals") for signal in _signals(table, times)]
-    study.closures = [_closure(table, times) for table in entries.list("closures")]
-    study.openings = [_opening(table, times) for table in entries.list("openings")]
-    study.remarks += entries.take("notes", list_of(title), [])
-    study.meters = [_meter(table, times) for table in entries.list("meters")]
-    study.speed_limits = [_speed_limit(table, times) for table in entries.list("speed_limits")]
-    study.crossings = [crossing(table, times, bool(study.trips)) for table in entries.list("junctions")]
-    study.uncertain = uncertainty_of(entries.list("uncertain"), times)
-    study.yield_interval = entries.take("yield_interval", duration, Study.yield_interval)
-    if study.yield_interval < study.step:
-        raise Problem("yield_interval: must be a step or more")
-    study.yield_interval = min(study.yield_interval, max(study.duration, study.step))
-    entries.done()
-    if not study.roads and not study.gates:
-        raise Problem("roads: is missing")
-    put_demand(study)
-    put_merges(study)
-    put_actuated_signals(study)
-    expand(study)
+def _study(entries: Entries, path: Path) -> Scenario:
+    """The study as its file says it, and then what follows of that: demands of trips, streams that give way, junctions' cells."""
+    study = _as_written(entries, path)
+    for following in (with_demand, with_merges, with_actuated_signals, expanded):
+        study = following(study)
     return study
 
 
-def _locate(study: Study, crs: str | None) -> None:
-    """Takes the points of roads from a coordinate system into km of one in metres; without one they are in km."""
-    roads = [road for road in study.roads.values() if road.points] if crs else []
-    points = [(x, y) for road in roads for x, y in road.points]
+def _as_written(entries: Entries, path: Path) -> Scenario:
+    start = entries.take("start", clock, Fraction(0))
+    title, step = entries.take("title", word, visible(path.stem)), entries.take("step", duration)
+    times, date = Times(Period(start, _duration_of(entries, start), path)), entries.take("date", day, None)
+    if step == 0:
+        raise Problem("step: must be above 0")
+    trips = read_trips(entries, times, _flows(times, "demand"))
+    lane: dict[str, Fraction] = entries.take("lane", lambda value, key: _lane(Entries(value, key)), {})
+    roads = {name: _road(name, table, lane) for name, table in entries.tables("roads")}
+    roads, crs = _located(roads, entries.take("crs", code, None))
+    gates = {name: _gate(name, table, times) for name, table in entries.tables("gates")}
+    exits = {name: _exit(name, table, times) for name, table in entries.tables("exits")}
+    joints = _joints(entries, times, bool(trips.trips))
+    signals = [signal for table in entries.list("signals") for signal in _signals(table, times)]
+    closures = [_closure(table, times) for table in entries.list("closures")]
+    openings = [_opening(table, times) for table in entries.list("openings")]
+    times.remarks += entries.take("notes", list_of(word), [])
+    meters = [_meter(table, times) for table in entries.list("meters")]
+    speed_limits = [_speed_limit(table, times) for table in entries.list("speed_limits")]
+    crossings = [crossing(table, times, bool(trips.trips)) for table in entries.list("junctions")]
+    uncertain = uncertainty_of(entries.list("uncertain"), times)
+    yield_interval = entries.take("yield_interval", duration, Scenario.yield_interval)
+    if yield_interval < step:
+        raise Problem("yield_interval: must be a step or more")
+    entries.done()
+    if not roads and not gates:
+        raise Problem("roads: is missing")
+    return Scenario(title, step, start, times.duration, roads, gates, exits, **joints, signals=signals, closures=closures,
+                 openings=openings, crossings=crossings, path=path, remarks=times.remarks, meters=meters,
+                 speed_limits=speed_limits, crs=crs, date=date, uncertain=uncertain, trips=trips.trips, routes=trips.routes,
+                 routing=trips.routing, ways=trips.ways, yield_interval=min(yield_interval, max(times.duration, step)))
+
+
+def _joints(entries: Entries, times: Times, trips: bool) -> Joints:
+    """What joins roads, but for junctions: links, merges and on-ramps, diverges and off-ramps."""
+    links = [_link(table) for table in entries.list("links")]
+    merges = [_merge(table) for table in entries.list("merges")]
+    merges += [_on_ramp(table) for table in entries.list("on_ramps")]
+    diverges = [_diverge(table, times, trips) for table in entries.list("diverges")]
+    diverges += [_off_ramp(table, times, trips) for table in entries.list("off_ramps")]
+    return {"links": links, "merges": merges, "diverges": diverges}
+
+
+def _located(roads: dict[str, Road], crs: str | None) -> tuple[dict[str, Road], str | None]:
+    """Roads whose points are taken from a coordinate system into km of one in metres, and that one; without one they are in km."""
+    points = [(x, y) for road in roads.values() for x, y in road.points] if crs else []
     if crs is None or not points:
-        return
-    for road in roads:
+        return roads, None
+    for road in roads.values():
         check_degrees([(x, y) for x, y in road.points], crs, f"roads.{road.name}.points")
-    study.crs, places = flat(points, crs, "crs")
+    system, places = flat(points, crs, "crs")
     rest = iter(places)
-    for road in roads:
-        road.points = [list(next(rest)) for _ in road.points]
+    return {name: replace(road, points=[list(next(rest)) for _ in road.points]) for name, road in roads.items()}, system
 
 
 def _duration_of(entries: Entries, start: Fraction) -> Fraction:
@@ -194,6 +220,8 @@ def _flows(times: Times, what: str) -> Reader[list[Flow]]:
         if isinstance(value, dict):
             if what != "demand":
                 raise Problem(f"{key}: expected rows of start, end and flow")
+            from .counts import flows_of_counts  # here, so that who has no counts doesn't load what reads them
+
             return flows_of_counts(Entries(value, key), times)
         if not isinstance(value, list):
             return [Flow(Fraction(0), times.duration, flow(value, key))]
@@ -246,18 +274,21 @@ def _weights(value: Any, key: str) -> list[Fraction]:
 def _merge(table: Entries) -> Merge:
     merge = Merge(table.take("from", list_of(word, 2)), table.take("into", word), table.take("priorities", _weights),
                   place=table.place)
-    take_precedence(table, merge)
-    table.done()
-    return merge
+    return _with_precedence(table, merge)
 
 
 def _on_ramp(table: Entries) -> Merge:
     road = table.take("road", word)
     merge = Merge([road, table.take("ramp", word)], road, table.take("priorities", _weights), table.take("at", length),
                   table.place)
-    take_precedence(table, merge)
+    return _with_precedence(table, merge)
+
+
+def _with_precedence(table: Entries, merge: Merge) -> Merge:
+    """A merge with the one of both streams that has priority, where its table says it."""
+    yields_to, gaps = precedence_at_merge(table, merge)
     table.done()
-    return merge
+    return replace(merge, yields_to=yields_to, gaps=gaps)
 
 
 def _turns(table: Entries, times: Times) -> list[Turn]:
@@ -315,14 +346,8 @@ def _signals(table: Entries, times: Times) -> list[Signal]:
             for line, begin in zip(lines, greens)]
 
 
-def _part(table: Entries, times: Times) -> RoadPart:
-    """The part of a road and the time that a closure or an opening is of."""
-    return RoadPart(table.take("road", word), table.take("from", length, Fraction(0)), table.take("to", length, None),
-                    *times.span(table), table.place)
-
-
 def _closure(table: Entries, times: Times) -> Closure:
-    closure = Closure(_part(table, times), table.take("lanes", lanes, None), table.take("capacity", flow, None),
+    closure = Closure(road_part(table, times), table.take("lanes", lanes, None), table.take("capacity", flow, None),
                       table.take("saturation_flow", flow, None))
     table.done()
     if (closure.lanes is None) == (closure.capacity is None):
@@ -331,7 +356,7 @@ def _closure(table: Entries, times: Times) -> Closure:
 
 
 def _opening(table: Entries, times: Times) -> Opening:
-    opening = Opening(_part(table, times), table.take("lanes", lanes), table.take("saturation_flow", flow, None))
+    opening = Opening(road_part(table, times), table.take("lanes", lanes), table.take("saturation_flow", flow, None))
     table.done()
     if opening.lanes == 0:
         raise Problem(f"{table.key('lanes')}: must be above 0")
@@ -339,7 +364,7 @@ def _opening(table: Entries, times: Times) -> Opening:
 
 
 def _speed_limit(table: Entries, times: Times) -> SpeedLimit:
-    limit = SpeedLimit(_part(table, times), table.take("speed", speed))
+    limit = SpeedLimit(road_part(table, times), table.take("speed", speed))
     table.done()
     if limit.speed == 0:
         raise Problem(f"{table.key('speed')}: must be above 0; a closure lets nobody through")

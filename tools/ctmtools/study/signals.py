@@ -1,16 +1,16 @@
-"""The signals of a study: those that run all the time, and those of a part of it, whose red is made of limits."""
+"""The signals of a study: those that run all the time, those of a part of it, whose red is made of limits, and those that follow traffic."""
 
 from __future__ import annotations
 
-from collections.abc import Iterator
-from dataclasses import dataclass
+from collections.abc import Hashable, Iterator
+from dataclasses import dataclass, replace
 
-from ..network_file.kinds import record_text
+from ..network_file.kinds import Record, record
 from ..problem import Problem
 from .capacities import Change
 from .junctions import Junctions
 from .limits import Limits
-from .plan import Signal, Study
+from .plan import ActuatedJunction, ActuatedPhase, Scenario, Signal
 from .scale import Scale
 
 
@@ -37,9 +37,9 @@ class Phases:
 class Signals:
     """The records of signals; those that run for a part of the time put their red among the limits."""
 
-    def __init__(self, study: Study, junctions: Junctions, scale: Scale, limits: Limits) -> None:
+    def __init__(self, study: Scenario, junctions: Junctions, scale: Scale, limits: Limits) -> None:
         self.study, self.junctions, self.scale, self.limits = study, junctions, scale, limits
-        self.records: list[str] = []
+        self.records: list[Record] = []
         self.remarks: dict[str, None] = {}
         self.lines: dict[str, list[tuple[Phases, str]]] = {}  # for each stop line the signals there so far
         self.cycles: dict[str, int] = {}  # for each stop line of signals whose red is made of limits the longest cycle
@@ -53,7 +53,7 @@ class Signals:
                 raise Problem(f"{signal.place}: at this stop line {place} runs at the same time")
         self.lines[cell].append((phases, signal.place))
         if phases.begin == 0 and phases.end >= self.scale.steps:
-            self.records.append(record_text("signal", cell, phases.cycle, -phases.first % phases.cycle, 0, phases.green))
+            self.records.append(record("signal", cell, phases.cycle, -phases.first % phases.cycle, 0, phases.green))
             return
         self.cycles[cell] = max(phases.cycle, self.cycles.get(cell, 0))
         barrier = self._barrier(cell, signal)
@@ -83,3 +83,50 @@ class Signals:
                      "line either: its queue stands from the next cell upstream on, and where a green clears it, who "
                      "has waited waits up to a step longer"] = None
         return cell
+
+
+def with_actuated_signals(study: Scenario) -> Scenario:
+    """The study with the stop lines whose greens follow traffic among the signals that do so.
+
+    Those whose roads meet in one merge or junction take turns; each other one has its red between its own greens.
+    """
+    groups: dict[Hashable, list[Signal]] = {}
+    for i, signal in enumerate(study.signals):
+        groups.setdefault(_meeting(study, signal) or i, []).append(signal)
+    actuated = [_actuated(study, sorted(own, key=lambda one: one.first_green % one.cycle)) for own in groups.values()
+                if any(signal.actuation for signal in own)]
+    return replace(study, actuated=[*study.actuated, *actuated])
+
+
+def _meeting(study: Scenario, signal: Signal) -> str | None:
+    """The place of the merge or of the junction to which a road leads, where its stop line stands at its end."""
+    if signal.at is not None:
+        return None
+    places = [merge.place for merge in study.merges if merge.at is None and signal.road in merge.sources]
+    places += [crossing.place for crossing in study.crossings if signal.road in crossing.sources]
+    return next(iter(places), None)
+
+
+def _actuated(study: Scenario, own: list[Signal]) -> ActuatedJunction:
+    """One signal of stop lines that take turns, in the order of their greens."""
+    first = own[0]
+    for signal in own:
+        if signal.cycle != first.cycle:
+            raise Problem(f"{signal.place}.cycle: {first.place} meets it and follows traffic, so both have one cycle")
+        if signal.start or signal.end != study.duration:
+            raise Problem(f"{signal.place}.actuated: greens that follow traffic do so for the whole study, without start and end")
+    phases: list[list[Signal]] = []
+    for signal in own:
+        if phases and (phases[-1][0].first_green % signal.cycle, phases[-1][0].green) == (signal.first_green % signal.cycle, signal.green):
+            phases[-1].append(signal)
+        else:
+            phases.append([signal])
+    begins = [each[0].first_green % first.cycle for each in phases]
+    found = []
+    for begin, behind, each in zip(begins, [*begins[1:], begins[0] + first.cycle], phases):
+        pause = behind - begin - each[0].green
+        if pause < 0:
+            raise Problem(f"{each[0].place}.green: greens that follow traffic stand one behind the other")
+        follows = next((signal.actuation for signal in each if signal.actuation), None)
+        found.append(ActuatedPhase([(signal.road, signal.at) for signal in each], each[0].green, follows, pause))
+    return ActuatedJunction(found, begins[0], " and ".join(dict.fromkeys(signal.place for signal in own)))

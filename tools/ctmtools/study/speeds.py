@@ -6,14 +6,13 @@ from collections.abc import Iterator, Sequence
 from fractions import Fraction
 from itertools import groupby
 
-from ..network_file.kinds import record_text
+from ..network_file.kinds import Record, record
 from ..problem import Problem
 from .capacities import Change, spans
 from .junctions import Junctions
 from .layout import RoadCell
-from .plan import Section, SpeedLimit, Study
-from .rounding import TOLD, rounded_text
-from .scale import Scale
+from .plan import Section, SpeedLimit, Scenario
+from .scale import TOLD, Scale, rounded_text
 
 FINEST = 1000  # a part has a denominator of so much at most
 Span = tuple[int, int, Fraction]  # the steps from and to which a part of the road's own speed holds
@@ -25,18 +24,18 @@ class Speeds:
     The wave speed and the jam density stay, so that a slower road passes less for long.
     """
 
-    def __init__(self, study: Study, junctions: Junctions, scale: Scale) -> None:
+    def __init__(self, study: Scenario, junctions: Junctions, scale: Scale) -> None:
         self.study, self.junctions, self.scale = study, junctions, scale
         self.limits: dict[str, list[Change]] = {}  # of each cell those that are below its own speed
         for limit in study.speed_limits:
             self._put(limit)
 
-    def records(self) -> Iterator[str]:
+    def records(self) -> Iterator[Record]:
         """A record for each span of steps in which a cell has less than its own speed."""
         for row in self.junctions.layout.cells.values():
             for cell in row:
                 for begin, end, part in self._spans(cell):
-                    yield record_text("speed", cell.name, begin, end, *part.as_integer_ratio())
+                    yield record("speed", cell.name, begin, end, *part.as_integer_ratio())
 
     def remarks(self) -> Iterator[str]:
         """What a road passes for long at the speed limits that lower it."""

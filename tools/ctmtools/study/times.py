@@ -1,15 +1,39 @@
-"""The time of a study: clock times as seconds after its start."""
+"""The time of a study: clock times as seconds after its start, and parts of roads for a time."""
 
 from __future__ import annotations
 
+from dataclasses import dataclass, field
 from fractions import Fraction
-from typing import Any
+from pathlib import Path
+from typing import Any, Protocol
 
 from ..problem import Problem
-from ..units import DAY, clock_text
+from ..texts.quantities import DAY, clock, length, word
+from ..units import clock_text
 from .entries import Entries
-from .plan import Study
-from .quantities import clock
+
+
+class Timed(Protocol):
+    """What has the time of a study: one that is read, or a `Period`."""
+
+    @property
+    def start(self) -> Fraction: ...
+    @property
+    def duration(self) -> Fraction: ...
+    @property
+    def path(self) -> Path: ...
+    @property
+    def remarks(self) -> list[str]: ...
+
+
+@dataclass(frozen=True)
+class Period:
+    """The time of a study in the making, and the remarks on what is read of it."""
+
+    start: Fraction
+    duration: Fraction
+    path: Path
+    remarks: list[str] = field(default_factory=list)
 
 
 class Times:
@@ -18,10 +42,10 @@ class Times:
     `remarks` are lines on what was read beside the study file, as counts.
     """
 
-    def __init__(self, study: Study) -> None:
+    def __init__(self, study: Timed) -> None:
         self.start = study.start
         self.duration = study.duration
-        self.folder = study.path.parent
+        self.path = study.path
         self.remarks = study.remarks
 
     @property
@@ -57,3 +81,21 @@ class Times:
             self.remarks.append(f"{end_key}: {self.clock(end)} is behind the study's end, {self.clock(self.duration)}, "
                                 "and is cut there")
         return begin, end
+
+
+@dataclass
+class RoadPart:
+    """A part of a road between two km and two times, and where the study says it."""
+
+    road: str
+    start_km: Fraction
+    end_km: Fraction | None
+    start: Fraction
+    end: Fraction
+    place: str
+
+
+def road_part(table: Entries, times: Times, key: str = "road") -> RoadPart:
+    """The part of a road, which a key names, and the time that a table is of."""
+    return RoadPart(table.take(key, word), table.take("from", length, Fraction(0)), table.take("to", length, None),
+                    *times.span(table), table.place)

@@ -2,17 +2,19 @@
 
 from __future__ import annotations
 
-from collections.abc import Iterable
+from collections.abc import Iterable, Iterator
+from dataclasses import dataclass, replace
 from fractions import Fraction
 from typing import Any
 
-from ..first_few import first_few
 from ..problem import Problem
+from ..texts.quantities import HOUR, duration, file_name, not_negative, number, shown, whole, word
+from ..texts.text_table import first_few
 from .entries import Entries, Reader, list_of
-from .plan import Flow, Route, Routing, Share, Study, Trips
-from .quantities import duration, not_negative, number, shown, whole, word
+from .folder import file_beside
+from .plan import Flow, Route, Routing, Share, Scenario, Trips
 from .times import Times
-from .trip_files import HOUR, trips_of_list, trips_of_matrix
+from .trip_files import trips_of_list, trips_of_matrix
 
 MOST_NAMED = 6  # gates or exits of the study that a message names
 MOST_WAYS = 1000  # of a pair
@@ -20,14 +22,23 @@ MOST_IN_STEP = 10_000_000  # vehicles that a network file says to come to a gate
 _part = not_negative("a share")
 
 
-def read_trips(entries: Entries, study: Study, times: Times, flows: Reader[list[Flow]]) -> None:
-    """Puts trips, routes, routing and the file of ways of a study's file into the study."""
-    study.trips = entries.take("trips", _trips(times, flows), [])
-    study.routes = [_route(table, times) for table in entries.list("routes")]
-    study.routing = entries.take("routing", _routing, Routing())
-    study.ways = entries.take("assigned", _ways_file, None)
-    if study.routes and not study.trips:
+@dataclass(frozen=True)
+class Travel:
+    """Who drives where: trips, the routes that are given, how drivers choose, and the file of ways."""
+
+    trips: list[Trips]
+    routes: list[Route]
+    routing: Routing
+    ways: str | None
+
+
+def read_trips(entries: Entries, times: Times, flows: Reader[list[Flow]]) -> Travel:
+    """The trips, routes, routing and the file of ways that a study's file says."""
+    travel = Travel(entries.take("trips", _trips(times, flows), []), [_route(table, times) for table in entries.list("routes")],
+                    entries.take("routing", _routing, Routing()), entries.take("assigned", _ways_file, None))
+    if travel.routes and not travel.trips:
         raise Problem("routes: there are no trips that could take them")
+    return travel
 
 
 def _trips(times: Times, flows: Reader[list[Flow]]) -> Reader[list[Trips]]:
@@ -48,19 +59,30 @@ def _pair(table: Entries, flows: Reader[list[Flow]]) -> Trips:
 
 def _of_files(table: Entries, times: Times) -> list[Trips]:
     """The trips of a list of them, a CSV file, or of a matrix for each slice of time."""
-    name, slices = table.take("file", word, None), table.list("matrices")
+    name, slices = table.take("file", file_name, None), table.list("matrices")
     if (name is None) == (not slices):
         raise Problem(f"{table.key('file')}: say either file, a list of trips, or matrices, one for each slice of time")
-    found = list(trips_of_list(times.folder / name, times)) if name is not None else []
+    found = list(trips_of_list(file_beside(times.path, name, table.key("file")), times)) if name is not None else []
+    spans: list[tuple[str, Fraction, Fraction]] = []
     for one in slices:
-        path = times.folder / one.take("file", word)
+        path = file_beside(times.path, one.take("file", file_name), one.key("file"))
         begin, end = times.span(one)
         one.done()
+        times.remarks += _overlaps(one.place, begin, end, spans, times)
+        spans.append((one.place, begin, end))
         found += trips_of_matrix(path, begin, end)
     table.done()
-    if not found:
-        raise Problem(f"{table.place}: there are no trips in it")
+    if not any(trips.demand for trips in found):
+        times.remarks.append(f"{table.place}: there are no trips in it")
     return _by_pair(found)
+
+
+def _overlaps(place: str, begin: Fraction, end: Fraction, spans: Iterable[tuple[str, Fraction, Fraction]], times: Times) -> Iterator[str]:
+    """Which slices before it a slice of time overlaps, and when."""
+    for other, first, last in spans:
+        if max(begin, first) < min(end, last):
+            span = f"{times.clock(max(begin, first))} to {times.clock(min(end, last))}"
+            yield f"{place}: overlaps {other} from {span}, and the vehicles of both come"
 
 
 def _by_pair(found: Iterable[Trips]) -> list[Trips]:
@@ -119,26 +141,30 @@ def part_of_drivers(value: Any, key: str) -> Fraction:
 
 def _ways_file(value: Any, key: str) -> str:
     table = Entries(value, key)
-    name: str = table.take("ways", word)
+    name: str = table.take("ways", file_name)
     table.done()
     return name
 
 
-def put_demand(study: Study) -> None:
-    """Gives each gate of trips the demand that they are, and refuses trips that can't be of the study."""
+def with_demand(study: Scenario) -> Scenario:
+    """The study in which each gate of trips has the demand that they are; trips that can't be of the study are refused."""
     for trips in study.trips:
         if trips.source not in study.gates:
-            raise Problem(f"{trips.place}: from {trips.source}: is no gate of the study, which has {first_few(study.gates, MOST_NAMED)}")
+            raise Problem(f"{trips.place}: {_end('from', trips.source, trips)} is no gate of the study, which has {first_few(study.gates, MOST_NAMED)}")
         if trips.into not in study.exits:
-            raise Problem(f"{trips.place}: to {trips.into}: is no exit of the study, which has {first_few(study.exits, MOST_NAMED)}")
+            raise Problem(f"{trips.place}: {_end('to', trips.into, trips)} is no exit of the study, which has {first_few(study.exits, MOST_NAMED)}")
         most = max((flow.flow for flow in trips.demand), default=Fraction(0))
         if most * study.step > MOST_IN_STEP * HOUR:
             raise Problem(f"{trips.place}: {shown(most)} vehicles/h are more than {MOST_IN_STEP:,} in a step")
+    gates = dict(study.gates)
     for name in dict.fromkeys(trips.source for trips in study.trips):
-        gate = study.gates[name]
-        if gate.demand:
+        if gates[name].demand:
             raise Problem(f"gates.{name}.demand: trips come from this gate, so it has no demand of its own")
-        gate.demand = summed(flow for trips in study.trips if trips.source == name for flow in trips.demand)
+        gates[name] = replace(gates[name], demand=summed(flow for trips in study.trips if trips.source == name for flow in trips.demand))
+    idle = [name for name, gate in gates.items() if not gate.demand]
+    if study.trips and idle:
+        study.remarks.append(f"no trips come from gate{'s'[:len(idle) != 1]} {first_few(idle, MOST_NAMED)}")
+    study = replace(study, trips=[trips for trips in study.trips if trips.demand] or study.trips)
     pairs = {(trips.source, trips.into) for trips in study.trips}
     for route in study.routes:
         if (route.source, route.into) not in pairs:
@@ -146,6 +172,12 @@ def put_demand(study: Study) -> None:
         own = [other for other in study.routes if (other.source, other.into) == (route.source, route.into)]
         if any(bool(other.shares) != bool(route.shares) for other in own):
             raise Problem(f"{route.place}.share: either all routes from {route.source} to {route.into} have shares or none")
+    return replace(study, gates=gates)
+
+
+def _end(word: str, name: str, trips: Trips) -> str:
+    """What a message calls the gate or the exit of trips: by its name where the study itself has it, and not a file."""
+    return f"{word} {name}:" if trips.place.startswith("trips") else f"{word}:"
 
 
 def summed(flows: Iterable[Flow]) -> list[Flow]:

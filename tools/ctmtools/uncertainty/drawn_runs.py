@@ -6,25 +6,24 @@ import hashlib
 import json
 from collections.abc import Iterator, Mapping, Sequence
 from contextlib import closing
-from dataclasses import replace
+from dataclasses import dataclass, replace
 from fractions import Fraction
 from pathlib import Path
 from typing import Any
 
 import pandas
 
-from ..kept_rows import KeptRows
+from ..many_runs.kept_rows import KeptValues
+from ..many_runs.task import Task, fingerprint
+from ..many_runs.workers import apart, done
 from ..problem import Problem
-from ..program import need_records, program_path
-from ..running import processors
+from ..program.calls import need_records, program_path
+from ..study.keys import gate_of_factor
 from ..study.messages import warned_before_runs
-from ..sweeps.task import Task, fingerprint
-from ..sweeps.workers import beside, cluster, here
-from .draw import drawn
-from .interval import Within
-from .key import is_demand, with_drawn
-from .plan import Plan, need_what_varies, plans_of, what_varies
-from .reliability import DELAY, OF_ROAD, PAST, TRAVEL
+from ..study.study import StudySource
+from .incident import drawn
+from .plan import Plan, need_what_varies, plans_of, what_varies, with_drawn
+from .reliability import DELAY, OF_ROAD, PAST, TRAVEL, Within
 from .task import Asked, DrawTask, measure
 
 COLUMNS = ("mark", "run", "measured")
@@ -34,22 +33,34 @@ MOST_AT_ONCE = 1000  # draws that are given out at once
 AS_IT_STANDS = 0  # the number of the draw in which nothing is drawn
 
 
+@dataclass(frozen=True)
+class Wanted:
+    """What is wanted of draws: how many, by which seed, of which file of what is uncertain in place of what the study says, what is
+    measured, how many steps from record to record, and how narrow an interval has to be for an end before the last draw."""
+
+    runs: int
+    seed: int
+    given: Path | None = None
+    asked: Asked = Asked()
+    every: int | None = None
+    within: Within | None = None
+
+
 class DrawnRuns:
     """The runs of one plan or more over the same draws; those that stand in the folder already aren't made again."""
 
-    def __init__(self, sources: Sequence[str | Path], runs: int, seed: int, given: Path | None = None, asked: Asked = Asked(),
-                 every: int | None = None, folder: Path | None = None, within: Within | None = None) -> None:
-        self.runs, self.seed, self.asked, self.every, self.within = runs, seed, asked, every, within
+    def __init__(self, sources: Sequence[StudySource], wanted: Wanted, folder: Path | None = None) -> None:
+        self.runs, self.seed, self.asked, self.every, self.within = wanted.runs, wanted.seed, wanted.asked, wanted.every, wanted.within
         self.program = str(program_path())
         self.plans = plans_of(sources)
-        self.uncertainty = what_varies(self.plans, given)
+        self.uncertainty = what_varies(self.plans, wanted.given)
         need_records()
         for plan in self.plans:
             need_what_varies(plan, self.uncertainty)
             plan.mark = fingerprint(self._task(plan, {}))
-        self.kept = KeptRows(None if folder is None else folder / "runs.csv", self._mark(), COLUMNS)
+        self.kept = KeptValues(None if folder is None else folder / "runs.csv", self._mark(), COLUMNS)
         self.failures: dict[str, str] = {}
-        self.count = runs  # of the draws that are told; fewer where an interval was narrow enough
+        self.count = self.runs  # of the draws that are told; fewer where an interval was narrow enough
 
     @property
     def missing(self) -> int:
@@ -64,7 +75,7 @@ class DrawnRuns:
         """The figures of each plan with nothing drawn; where one can't be run, the problem."""
         for plan in self.plans:
             if self._point(plan, AS_IT_STANDS) not in self.kept.values:
-                self._put(plan, AS_IT_STANDS, measure(self._draw_task(plan, AS_IT_STANDS)))
+                self._put(plan, AS_IT_STANDS, apart(measure, self._draw_task(plan, AS_IT_STANDS)))
             failed = self.failures.get(self._point(plan, AS_IT_STANDS))
             if failed:
                 raise Problem(failed if failed.startswith(str(plan.path)) else f"{plan.path}: {failed}")
@@ -88,11 +99,8 @@ class DrawnRuns:
         if not missing:
             return
         tasks = [self._draw_task(plan, number) for plan, number in missing]
-        count = min(jobs or processors(), len(tasks))
-        done = cluster(tasks, address, measure) if address else here(tasks, measure) if count == 1 else \
-            beside(tasks, count, measure)
-        with closing(done):
-            for i, measured in done:
+        with closing(done(tasks, measure, jobs, address)) as found:
+            for i, measured in found:
                 self._put(*missing[i], measured)
                 yield missing[i][1]
 
@@ -143,7 +151,7 @@ class DrawnRuns:
 
     def _task(self, plan: Plan, values: Mapping[str, Any]) -> Task:
         """The run of a plan with values for the keys that vary; none of them where it stands as it is."""
-        factors = {key: value for key, value in values.items() if is_demand(key)}
+        factors = {key: value for key, value in values.items() if gate_of_factor(key) is not None}
         made = with_drawn(plan.values, self.uncertainty.varying, values) if values else plan.values
         return Task(made, str(plan.path.resolve()), factors, self.program, self.every)
 
@@ -164,7 +172,7 @@ def flat(measured: Mapping[str, Any]) -> dict[str, Any]:
     """The figures of a run as columns."""
     if measured["error"]:
         return {"error": measured["error"]}
-    single = {name: measured[name] for name in ("incidents", DELAY, "served_vehicles", "inside_vehicles", "last_queue_s")}
+    single = {name: measured[name] for name in ("incidents", DELAY, "left_vehicles", "inside_vehicles", "last_queue_s")}
     return {**single, **{OF_ROAD + road: value for road, value in measured["delays"].items()},
             **{TRAVEL + way: value for way, value in measured["travel"].items()},
             **{PAST + place: int(value) for place, value in measured["past"].items()},

@@ -6,13 +6,13 @@ from collections.abc import Iterator
 
 from ..report.summary import number_text
 from .reliability import PERCENTS, Chance, Spread
-from .results import TIME, Results
+from .results import TIME, Draws
 
 MOST_WAYS = 12  # so many roads are told, those with the greatest planning time index
 HEADS = ("as it stands", "mean", "95 % interval", *(f"{percent} %" for percent in PERCENTS), "planning time index", "buffer index")
 
 
-def spread_rows(results: Results, plan: str) -> Iterator[tuple[str, ...]]:
+def spread_rows(results: Draws, plan: str) -> Iterator[tuple[str, ...]]:
     """The table of a plan below `HEADS`: a row for its delay and for each travel time, those with the greatest index first."""
     found = results.spreads(plan)
     for name in ["delay", *_times(results, plan)[:MOST_WAYS]]:
@@ -23,7 +23,7 @@ def spread_rows(results: Results, plan: str) -> Iterator[tuple[str, ...]]:
                *(number_text(spread.percentiles[percent]) for percent in PERCENTS), *indices)
 
 
-def plan_lines(results: Results, plan: str) -> Iterator[str]:
+def plan_lines(results: Draws, plan: str) -> Iterator[str]:
     """What is told of a plan below its table: roads left out, vehicles inside at the end, and where and when queues stand."""
     more = len(_times(results, plan)) - MOST_WAYS
     if more > 0:
@@ -37,7 +37,7 @@ def plan_lines(results: Results, plan: str) -> Iterator[str]:
         yield f"A queue lasts past {time} in {_chance(results.lasting(plan, time))}"
 
 
-def compared_lines(results: Results, second: str) -> Iterator[str]:
+def compared_lines(results: Draws, second: str) -> Iterator[str]:
     """A plan beside the first, draw by draw."""
     first, found = results.plans[0], results.compared(second)
     if found is None:
@@ -51,7 +51,7 @@ def compared_lines(results: Results, second: str) -> Iterator[str]:
            f"95 % interval {number_text(ends[0])} to {number_text(ends[1])}; in 95 % of draws {number_text(middle[0])} to {number_text(middle[1])}")
 
 
-def _times(results: Results, plan: str) -> list[str]:
+def _times(results: Draws, plan: str) -> list[str]:
     """The travel times of a plan, those with the greatest planning time index first."""
     return sorted((name for name in results.spreads(plan) if name.startswith(TIME)),
                   key=lambda name: -results.planning_time_index(plan, name))

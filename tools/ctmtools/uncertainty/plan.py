@@ -1,8 +1,9 @@
-"""Plans that are drawn: their studies, and what is uncertain of all of them."""
+"""Plans that are drawn: their studies, what is uncertain of all of them, and their values with what was drawn."""
 
 from __future__ import annotations
 
-from collections.abc import Sequence
+import copy
+from collections.abc import Mapping, Sequence
 from dataclasses import dataclass
 from fractions import Fraction
 from pathlib import Path
@@ -10,11 +11,13 @@ from typing import Any
 
 from ..problem import NoSuchKey, Problem
 from ..study.entries import Entries
-from ..study.plan import Study
-from ..study.reading import read_values, study_of
+from ..study.keys import gate_of_factor, places
+from ..study.plan import Scenario
+from ..study.reading import read_values, scenario_of
+from ..study.study import StudySource, study_from
 from ..study.times import Times
-from .key import is_demand, with_drawn
-from .uncertainty import Uncertainty, uncertainty_of
+from ..study.uncertainty import Uncertainty, Varying, uncertainty_of
+from ..texts.quantities import TEXT, UNITS, shown
 
 UNCERTAIN = "uncertain"
 
@@ -27,25 +30,25 @@ class Plan:
     title: str
     path: Path
     values: dict[str, Any]
-    study: Study
+    study: Scenario
     mark: str = ""
 
 
-def plans_of(sources: Sequence[str | Path]) -> list[Plan]:
-    """The plans in some study files, called by their files' names, or by their paths where two names are the same."""
-    names = [Path(source).stem for source in sources]
+def plans_of(sources: Sequence[StudySource]) -> list[Plan]:
+    """The plans in some studies, called by their files' names, or by their paths where two names are the same."""
+    studies = list(map(study_from, sources))
+    names = [study.path.stem for study in studies]
     if len(set(names)) < len(names):
-        names = [str(source) for source in sources]
+        names = [str(study.path) for study in studies]
     if len(set(names)) < len(names):
-        raise Problem(f"{sources[-1]}: each plan is named once")
+        raise Problem(f"{studies[-1].path}: each plan is named once")
     plans = []
-    for name, source in zip(names, sources):
-        values = read_values(source)
-        study = study_of(values, Path(source))
+    for name, study in zip(names, studies):
+        values, scenario = study.values, study.scenario
         values.pop(UNCERTAIN, None)
-        plans.append(Plan(name, study.title, Path(source), values, study))
-        if (study.start, study.duration) != (plans[0].study.start, plans[0].study.duration):
-            raise Problem(f"{source}: is of another time than {sources[0]}, so their delays aren't compared")
+        plans.append(Plan(name, scenario.title, study.path, values, scenario))
+        if (scenario.start, scenario.duration) != (plans[0].study.start, plans[0].study.duration):
+            raise Problem(f"{study.path}: is of another time than {studies[0].path}, so their delays aren't compared")
     return plans
 
 
@@ -63,7 +66,7 @@ def what_varies(plans: Sequence[Plan], given: Path | None) -> Uncertainty:
     return found
 
 
-def _read(path: Path, study: Study) -> Uncertainty:
+def _read(path: Path, study: Scenario) -> Uncertainty:
     """What a file of `[[uncertain]]` alone says, in the times of a study."""
     try:
         entries = Entries(read_values(path), "")
@@ -79,17 +82,40 @@ def _read(path: Path, study: Study) -> Uncertainty:
 def need_what_varies(plan: Plan, uncertainty: Uncertainty) -> None:
     """Refuses what a plan doesn't have: a key that varies, or the road of incidents."""
     for one in uncertainty.varying:
-        gate = one.key.partition(".")[2]
-        if is_demand(one.key):
+        gate = gate_of_factor(one.key)
+        if gate is not None:
             if gate and gate not in plan.study.gates:
                 raise Problem(f"{plan.path}: uncertain: {one.key}: the study has no gate {gate}")
             continue
         try:
             value = Fraction(1) if one.by_factor else one.distribution.at(0.0)
-            study_of(with_drawn(plan.values, [one], {one.key: value}), plan.path)
+            scenario_of(with_drawn(plan.values, [one], {one.key: value}), plan.path)
         except Problem as problem:  # a value that the key can't have is a matter of its row
             if one.by_factor or isinstance(problem, NoSuchKey):
                 raise type(problem)(f"{plan.path}: {str(problem).removeprefix(f'{plan.path}: ')}") from None
     for incidents in uncertainty.incidents:
         if incidents.part.road not in plan.study.roads:
             raise Problem(f"{plan.path}: {incidents.part.place}.incidents: the study has no road {incidents.part.road}")
+
+
+def with_drawn(values: dict[str, Any], varying: Sequence[Varying], drawn: Mapping[str, Any]) -> dict[str, Any]:
+    """A study's values in which the keys that vary, but for demands, have what was drawn."""
+    values = copy.deepcopy(values)
+    for one in varying:
+        if gate_of_factor(one.key) is not None:
+            continue
+        for table, name in places(values, one.key, "uncertain: "):
+            table[name] = multiplied(table.get(name), drawn[one.key], one.key) if one.by_factor else drawn[one.key]
+    return values
+
+
+def multiplied(value: Any, factor: Fraction, key: str) -> Any:
+    """A number of a study, or a text of one with its unit, times a factor."""
+    if value is None:
+        raise NoSuchKey(f"uncertain: {key}: the study says nothing there that a factor could multiply; draw a value")
+    if isinstance(value, (int, Fraction)) and not isinstance(value, bool):
+        return value * factor
+    found = TEXT.fullmatch(value) if isinstance(value, str) else None
+    if not found or not any(found[2] in units for _, units in UNITS.values()):
+        raise Problem(f"uncertain: {key}: a factor multiplies a number, found {shown(value)}")
+    return f"{float(Fraction(found[1]) * factor):.9f} {found[2]}"

@@ -1,25 +1,41 @@
-"""The results of draws: the rows of all runs, and what they tell of each plan."""
+"""The results of draws: the rows of all runs, what they tell of each plan, and their files, from which a page reads them again."""
 
 from __future__ import annotations
 
+import io
+import json
 from collections.abc import Mapping, Sequence
-from dataclasses import dataclass
+from dataclasses import dataclass, fields
 from functools import cached_property
+from pathlib import Path
 from typing import Any
 
 import numpy
 import pandas
 
+from ..arrays import Numbers
+from ..files.reading import read_bytes
+from ..files.seals import KEY, broken, is_sealed, sealed
+from ..files.writing import write
+from ..many_runs.results import Results
+from ..network_file.checksums import checksum
+from ..problem import Problem
+from ..texts.cells import frame_text, unguarded
 from .drawn_runs import DrawnRuns, flat
 from .reliability import (DELAY, OF_ROAD, PAST, TRAVEL, Chance, Comparison, Spread, buffer_index, chance, compared,
                           planning_time_index, spread, succeeded)
 
 TIME = "travel time "
 LEAST_INSIDE = 0.01  # vehicles; what rounding leaves is no vehicle
+FEWEST, MOST = 5, 40  # bars
+EACH = 10  # draws of a plan that a bar has in the mean, where neither bound holds
+DRAWS, BESIDE = "draws.csv", "draws.json"  # a row for each plan and draw, and what else is told of them
+OF_DRAWS = "draws_checksum"
+TEXTS = ("plan", "rounded", "error")  # columns of `DRAWS` that are no numbers, whatever they look like
 
 
-@dataclass
-class Results:
+@dataclass(eq=False, kw_only=True)
+class Draws(Results):
     """The draws of some plans, a row for each plan and draw, with the figures of the plans as they stand and their free times.
 
     `times` are the clock times that a queue may last past, in s after the start; `asked_for` are the draws that were asked
@@ -35,7 +51,6 @@ class Results:
     times: dict[str, float]
     stand: dict[str, dict[str, Any]]
     free: dict[str, dict[str, float]]
-    draws: pandas.DataFrame
     networks: dict[str, str]
 
     @property
@@ -45,14 +60,14 @@ class Results:
 
     def own(self, plan: str) -> pandas.DataFrame:
         """The rows of a plan's runs that didn't fail, by draw."""
-        return succeeded(self.draws, plan)
+        return succeeded(self.rows, plan)
 
     def delays(self, plan: str) -> pandas.Series:
         """The delays of a plan by draw, in vehicle-hours."""
         return self.own(plan)[DELAY].astype(float)
 
     @property
-    def succeeded(self) -> dict[str, numpy.ndarray]:
+    def delays_by_plan(self) -> dict[str, Numbers]:
         """The delays of each plan of which a run succeeded, in vehicle-hours."""
         return {plan: self.delays(plan).to_numpy() for plan in self.plans if len(self.own(plan))}
 
@@ -149,12 +164,66 @@ def _chance_row(plan: str, figure: str, one: Chance) -> dict[str, Any]:
             "mean_high": high}
 
 
-def results_of(drawn_runs: DrawnRuns, times: Mapping[str, float] | None = None) -> Results:
+def results_of(drawn_runs: DrawnRuns, times: Mapping[str, float] | None = None) -> Draws:
     """The results of draws that have been made; `times` are clock times, in s after the start."""
     measured = dict(zip([plan.name for plan in drawn_runs.plans], drawn_runs.as_it_stands()))
     titles: Sequence[str] = [plan.title for plan in drawn_runs.plans]
     titles = titles if len(set(titles)) == len(titles) else list(measured)
-    return Results(drawn_runs.plans[0].title, dict(zip(measured, titles)), drawn_runs.seed, drawn_runs.count, drawn_runs.runs,
-                   drawn_runs.asked.places, dict(times or {}),
-                   {plan: flat(one) for plan, one in measured.items()}, {plan: one["free"] for plan, one in measured.items()},
-                   drawn_runs.frame(), {plan: one["network"] for plan, one in measured.items()})
+    return Draws(drawn_runs.frame(), tuple(one.key for one in drawn_runs.uncertainty.varying), title=drawn_runs.plans[0].title,
+                 titles=dict(zip(measured, titles)), seed=drawn_runs.seed, count=drawn_runs.count, asked_for=drawn_runs.runs,
+                 places=drawn_runs.asked.places, times=dict(times or {}), stand={plan: flat(one) for plan, one in measured.items()},
+                 free={plan: one["free"] for plan, one in measured.items()},
+                 networks={plan: one["network"] for plan, one in measured.items()})
+
+
+def bars_of(delays: Mapping[str, Numbers]) -> tuple[Numbers, dict[str, Numbers]]:
+    """The ends of the bars, and for each plan the part of its draws in each; a plan has one draw at least.
+
+    They are alike for all plans, and the picture and the page draw them.
+    """
+    every = numpy.concatenate(list(delays.values()))
+    count = min(MOST, max(FEWEST, round(len(every) / len(delays)) // EACH))
+    ends = numpy.linspace(every.min(), every.max() if every.max() > every.min() else every.min() + 1, count + 1)
+    return ends, {plan: numpy.histogram(values, ends)[0] / len(values) for plan, values in delays.items()}
+
+
+def write_results(results: Draws, folder: Path) -> None:
+    """Writes the rows of all draws, and beside them what they are of."""
+    rows = frame_text(results.rows, index=False)
+    terms = {term.name: getattr(results, term.name) for term in fields(Draws) if term not in fields(Results)}
+    write(folder / DRAWS, rows)
+    write(folder / BESIDE, json.dumps(sealed({**terms, OF_DRAWS: checksum(rows.encode())}), indent=1) + "\n")
+
+
+def read_results(folder: Path) -> Draws:
+    """The results that a call of `draw` wrote last into a folder."""
+    if not (folder / BESIDE).exists():
+        raise Problem(f"{folder}: has no {BESIDE}; `ctm-tools draw` writes such a folder")
+    content = read_bytes(folder / DRAWS)
+    terms = _terms(folder / BESIDE)
+    if terms.pop(OF_DRAWS, None) != checksum(content):
+        raise Problem(f"{folder / DRAWS}: isn't what {BESIDE} is of; the same call of `ctm-tools draw` writes both anew")
+    rows = pandas.read_csv(io.BytesIO(content), float_precision="round_trip", keep_default_na=False, na_values=[""],
+                           dtype=dict.fromkeys(TEXTS, str))
+    rows = rows.fillna(dict.fromkeys(TEXTS, "")).rename(columns=unguarded)
+    for name in TEXTS:
+        if name in rows:
+            rows[name] = rows[name].map(unguarded)
+    try:
+        terms["places"] = tuple(terms["places"])
+        return Draws(rows, **terms)
+    except (TypeError, KeyError, ValueError):
+        raise Problem(f"{folder / BESIDE}: isn't one that this `ctm-tools draw` writes") from None
+
+
+def _terms(path: Path) -> dict[str, Any]:
+    try:
+        terms = json.loads(read_bytes(path))
+    except (ValueError, RecursionError):
+        terms = None
+    if not isinstance(terms, dict):
+        raise Problem(f"{path}: isn't one that `ctm-tools draw` writes")
+    if not is_sealed(terms):
+        raise broken(path, cure="the same call of `ctm-tools draw` writes it anew")
+    del terms[KEY]
+    return terms

@@ -3,21 +3,20 @@
 from __future__ import annotations
 
 from dataclasses import dataclass
-from pathlib import Path
 from typing import Any
 
 import numpy
 
-from ..problem import Problem, one_line
+from ..many_runs.task import Task, ran, study
+from ..problem import Problem
 from ..report.by_road import roads_and_gates
 from ..report.queues import standing
 from ..report.reading import Report
 from ..report.travel import cell_before, chain_of, trips
 from ..study.plan import Closure
-from ..sweeps.task import Task, ran, study
+from ..study.uncertainty import Incidents
 from .incident import happened
 from .reliability import DELAY
-from .uncertainty import Incidents
 
 LONGEST = "longest route"
 
@@ -43,31 +42,24 @@ class DrawTask:
 
 
 def measure(task: DrawTask) -> dict[str, Any]:
-    """What a run comes to, and what went wrong in `error`, which is an empty text where nothing did.
+    """What a run comes to.
 
     Delay is in vehicle-hours, `last_queue_s` when the last queue cleared, in s after the start, or None without one;
     `delays` are those of each road and gate, `travel` and `free` the mean travel time of those who arrive and that at free flow,
     in min, by road and route; `past` tells whether a queue stood before each place; `network` is the checksum of the network.
     """
-    try:
-        if not Path(task.plan.program).exists():
-            raise Problem(f"there is no program {task.plan.program} on this machine")
-        made = study(task.plan)
-        closures = _closures(task, task.first) if task.first else []
-        made.closures += closures
-        report, network, notes = ran(made, task.plan)
-        report.need_records()
-        return {**figures(report, task.asked), "incidents": len(closures), "network": network, "rounded": notes, "error": ""}
-    except Problem as problem:
-        return {"error": one_line(problem)}
-    except Exception as error:  # whatever it is, it is this run's, and the other runs go on
-        return {"error": one_line(f"{type(error).__name__}: {error}")}
+    made = study(task.plan)
+    closures = _closures(task, task.first) if task.first else []
+    made.closures += closures
+    run = ran(made, task.plan)
+    run.report.need_records()
+    return {**figures(run.report, task.asked), "incidents": len(closures), "network": run.checksum, "rounded": run.notes}
 
 
 def _closures(task: DrawTask, first: Task) -> list[Closure]:
     """The closures of a draw's incidents, the same for each plan."""
     made = study(first)
-    report, _, _ = ran(made, first)
+    report = ran(made, first).report
     report.need_records()
     return happened(task.incidents, report, made, task.seed, task.number)
 
@@ -86,8 +78,8 @@ def figures(report: Report, asked: Asked) -> dict[str, Any]:
     last = float(report.times[rows[-1] + 1] * (report.units.step or 0)) if len(rows) else None
     past = {place: bool(stands[_cell_before(report, place)].any()) for place in asked.places}
     delays = {name: float(report.units.hours(report.cells.wait[cells].sum())) for name, cells in roads_and_gates(report).items()}
-    return {DELAY: report.delay_vehicle_hours, "served_vehicles": float(report.total.left),
-            "inside_vehicles": float(report.total.inside), "last_queue_s": last, "delays": delays, "travel": travel,
+    return {DELAY: report.delay_vehicle_hours, "left_vehicles": float(report.sums.left),
+            "inside_vehicles": float(report.sums.inside), "last_queue_s": last, "delays": delays, "travel": travel,
             "free": free, "past": past}
 
 

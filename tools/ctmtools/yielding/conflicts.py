@@ -5,20 +5,28 @@ from __future__ import annotations
 from collections.abc import Sequence
 
 import numpy
-import numpy.typing
 
+from ..arrays import Numbers
 from ..report.reading import Report
 from ..study.plan import Stream, Yield
+from ..texts.amounts import PARTS
+from ..texts.quantities import HOUR
 from ..units import Units, cell_of
-
-HOUR = 3600
-Numbers = numpy.typing.NDArray[numpy.float64]
 
 
 def flow_of(report: Report, cell: str, bounds: Numbers) -> Numbers:
     """The vehicles/h that left a cell between each of some steps and the next."""
-    gone = numpy.interp(bounds, report.times, report.departed[cell].to_numpy())
-    return numpy.diff(gone) / numpy.diff(bounds) * (HOUR / (report.units.step or 1.0))
+    left = numpy.interp(bounds, report.times, report.records.left[:, report.place(cell)] / PARTS)
+    flow: Numbers = numpy.diff(left) / numpy.diff(bounds) * (HOUR / (report.units.step or 1.0))
+    return flow
+
+
+def come_to(report: Report, cell: str, bounds: Numbers) -> Numbers:
+    """The vehicles/h that came to a cell between each of some steps and the next."""
+    place = report.place(cell)
+    come = numpy.interp(bounds, report.times, (report.records.left[:, place] + report.records.vehicles[:, place]) / PARTS)
+    flow: Numbers = numpy.diff(come) / numpy.diff(bounds) * (HOUR / (report.units.step or 1.0))
+    return flow
 
 
 def streams_of(report: Report, one: Yield, bounds: Numbers) -> list[Numbers]:

@@ -13,7 +13,8 @@ from __future__ import annotations
 
 from math import sqrt
 
-HOUR = 3600
+from ..texts.quantities import HOUR
+
 PERIOD = 0.25  # hours, the manual's analysis period
 STARTING = 5.0  # s
 AT_STOP, AT_SIGNAL = 8, 4  # of the root

@@ -7,18 +7,25 @@ vehicles/h that come to it, and `c` that pass in its greens, each vehicle loses 
 from __future__ import annotations
 
 from collections.abc import Iterable, Sequence
-from dataclasses import asdict, dataclass
+from dataclasses import dataclass
+from typing import TYPE_CHECKING
 
 import numpy
-import pandas
 
+from ..arrays import Numbers
 from ..report.reading import Report
 from ..study.network_text import Built
-from ..study.plan import Study
-from .conflicts import HOUR, Numbers, flow_of, total, whole_cycles
+from ..study.plan import Scenario
+from ..texts.quantities import HOUR
+from ..units import AtRandom, LaneGroup, Loss
+from .conflicts import flow_of, total, whole_cycles
 from .control_delay import at_signal
-from .lane_groups import LaneGroup, lane_groups
-from .yielding import FULL, Waits
+from .lane_groups import lane_groups
+from .shared_lanes import A_VEHICLE
+from .yielding import FULL
+
+if TYPE_CHECKING:
+    import pandas
 
 MINUTE = 60
 
@@ -28,7 +35,7 @@ class GreenWaits:
     """What a lane group's vehicles lose by coming at random: how many do, while no queue stands, in vehicle-hours.
 
     `part` is what they are of those that may pass, in their mean. `full` is for how many s a queue stands, whose delay is that of
-    the run.
+    the run. `most` is the greatest part of what may pass that does in the run.
     """
 
     name: str
@@ -36,37 +43,38 @@ class GreenWaits:
     hours: float
     part: float
     full: float
+    most: float
 
 
-def note_losses(study: Study, waits: Sequence[Waits], built: Built) -> None:
+def note_losses(study: Scenario, waits: Sequence[Loss], built: Built) -> None:
     """Notes in the units of a network that was settled by what its reports tell what is lost by coming at random."""
     units = built.units
-    units.yield_interval = round(study.yield_interval / study.step)
-    units.lane_groups = [asdict(group) for group in lane_groups(study, built.network, units)]
-    units.giving_way = [{"name": one.name, **asdict(each)} for one, each in zip(study.yields, waits)]
+    units.at_random = AtRandom(round(study.yield_interval / study.step), lane_groups(study, built.network, units), list(waits))
 
 
 def waits_at_greens(report: Report) -> list[GreenWaits]:
     """What is lost by coming at random at each lane group of a study, by the report of a run that has records."""
     report.need_records()
+    if not report.units.at_random.lane_groups:
+        return []
     network, signals = report.need_network(), report.need_network().signals.set_index("cell")
     found = []
-    for group in (LaneGroup(**row) for row in report.units.lane_groups):
+    for group in report.units.at_random.lane_groups:
         if group.line not in signals.index:  # of a network from which it was taken by hand
             continue
-        width = whole_cycles(report.units.yield_interval or 1, int(signals.cycle[group.line]))
+        width = whole_cycles(report.units.at_random.interval or 1, int(signals.cycle[group.line]))
         bounds = numpy.append(numpy.arange(0, report.steps, width), report.steps).astype(float)
-        parts = _green_parts(signals.loc[group.line], network.limits_of.get(group.line, ()), float(network.cells.Q[group.line]), bounds)
+        parts = _green_parts(signals.loc[group.line], network.limits_of.get(group.line, ()), network.capacities[group.line], bounds)
         found.append(_waits(group, report, bounds, group.saturation * parts))
     return found
 
 
 def lost_at_random(report: Report) -> dict[str, float] | None:
     """The vehicle-hours that are lost by coming at random, by where; None where that isn't known, as without records."""
-    if not report.recorded or report.network is None or report.units.yield_interval is None:
+    if not report.recorded or report.network is None or report.units.at_random.interval is None:
         return None
     return {"at fixed greens": sum(one.hours for one in waits_at_greens(report)),
-            "by those who give way": sum(one["hours"] for one in report.units.giving_way)}
+            "by those who give way": sum(one.hours for one in report.units.at_random.giving_way)}
 
 
 def _waits(group: LaneGroup, report: Report, bounds: Numbers, capacities: Numbers) -> GreenWaits:
@@ -77,8 +85,9 @@ def _waits(group: LaneGroup, report: Report, bounds: Numbers, capacities: Number
             in zip(own, come, capacities, hours) if 0 < flow < FULL * capacity]
     vehicles = sum(count for count, _, _ in rows)
     part = sum(count * x for count, x, _ in rows) / vehicles if vehicles else 0.0
+    most = float((come / numpy.maximum(capacities, A_VEHICLE)).max(initial=0))
     return GreenWaits(group.name, vehicles, sum(count * lost for count, _, lost in rows) / HOUR, part,
-                      float(hours[(come > 0) & (come >= FULL * capacities)].sum()) * HOUR)
+                      float(hours[(come > 0) & (come >= FULL * capacities)].sum()) * HOUR, most)
 
 
 def by_lane_group(report: Report, value_of_time: float | None = None) -> pandas.DataFrame:
@@ -87,6 +96,8 @@ def by_lane_group(report: Report, value_of_time: float | None = None) -> pandas.
     `vehicles` come while no queue stands, `part` of those that may pass in their mean; each loses `lost_each` s, which are `lost`
     vehicle-hours, and for `queue_stands` min a queue stands. With a value of time, in money an hour, `cost` is what they cost.
     """
+    import pandas
+
     rows = [(one.name, one.vehicles, one.part, one.hours * HOUR / one.vehicles if one.vehicles else float("nan"), one.hours,
              one.full / MINUTE) for one in sorted(waits_at_greens(report), key=lambda one: -one.hours)]
     frame = pandas.DataFrame(rows, columns=["lane_group", "vehicles", "part", "lost_each", "lost", "queue_stands"])
@@ -102,4 +113,5 @@ def _green_parts(signal: pandas.Series, limits: Iterable[tuple[int, int, float]]
     passing = ((times + signal.offset - signal["from"]) % signal.cycle < signal["to"] - signal["from"]).astype(float)
     for begin, end, capacity in limits:
         passing[begin:end] *= min(1.0, capacity / most)
-    return numpy.add.reduceat(passing, bounds[:-1].astype(int)) / numpy.diff(bounds)
+    parts: Numbers = numpy.add.reduceat(passing, bounds[:-1].astype(int)) / numpy.diff(bounds)
+    return parts

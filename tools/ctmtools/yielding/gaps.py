@@ -13,8 +13,7 @@ from math import exp, expm1, isclose, sqrt
 
 from ..study.gap_kinds import SIEGLOCH
 from ..study.plan import Gaps
-
-HOUR = 3600
+from ..texts.quantities import HOUR
 
 
 def harders(priority: float, critical: float, follow_up: float) -> float:

@@ -4,19 +4,22 @@ from __future__ import annotations
 
 from collections.abc import Iterator, Sequence
 
+from ..arrays import Numbers
 from ..report.reading import Report
 from ..report.summary import number_text
-from ..text_table import table
+from ..texts.quantities import HOUR
+from ..texts.text_table import table
+from ..units import Loss
 from .fixed_greens import MINUTE, GreenWaits, waits_at_greens
-from .yielding import Waits, Yielding
+from .yielding import Yielding
 
-HOUR = 3600
 MOST_TOLD = 8
+BEYOND = 1.02  # of what may pass, from which on more passes than limits and steps make of it
 AT_GREENS = "Lost at fixed greens by coming at random, by the Highway Capacity Manual and no part of the delay"
 HEADS = ("lane group", "vehicles", "of what may pass", "each", "vehicle-hours", "queue stands")
 
 
-def passing_lines(ones: Sequence[Yielding], waits: Sequence[Waits], moves: Sequence[float], runs: int,
+def passing_lines(ones: Sequence[Yielding], waits: Sequence[Loss], moves: Sequence[float], runs: int,
             least: float) -> tuple[list[str], list[str]]:
     """Remarks on what passes of each and what is lost by coming at random, and warnings of those whose limits still move."""
     lines = [_passes(one) + _waits(each) for one, each in zip(ones[:MOST_TOLD], waits)]
@@ -39,13 +42,18 @@ def passing_lines(ones: Sequence[Yielding], waits: Sequence[Waits], moves: Seque
 def _passes(one: Yielding) -> str:
     """What gaps let pass of a stream, in the cycle's mean where it has a signal."""
     rates = (one.rates * one.green.permitted if one.green else one.rates).mean(axis=1)
-    low, high = (f"{value:,.0f}" for value in (rates.min(), rates.max()))
-    span = low if low == high else f"{low} to {high}"
     signal = " in permitted greens, sneakers among them" if one.green else " through gaps"
-    return f"{one.of.name}: {span} vehicles/h may pass{signal}"
+    lane = f", of {_span(rates / one.of_lane)} in the lane that it shares" if (one.of_lane < 1).any() else ""
+    return f"{one.of.name}: {_span(rates)} vehicles/h may pass{signal}{lane}"
 
 
-def _waits(waits: Waits) -> str:
+def _span(rates: Numbers) -> str:
+    """The least and the greatest of rates, or one where they are the same."""
+    low, high = (f"{value:,.0f}" for value in (rates.min(), rates.max()))
+    return low if low == high else f"{low} to {high}"
+
+
+def _waits(waits: Loss) -> str:
     """What each vehicle loses by coming at random."""
     if not waits.vehicles:
         return ""
@@ -63,6 +71,18 @@ def green_lines(report: Report) -> Iterator[str]:
         yield from table([HEADS, *rows[:MOST_TOLD]], right=(1, 2, 3, 4, 5))
         if len(rows) > MOST_TOLD:
             yield f"  and {len(rows) - MOST_TOLD} more with less"
+        yield from _beyond(waits_at_greens(report))
+
+
+def _beyond(groups: Sequence[GreenWaits]) -> Iterator[str]:
+    """Of which lane groups more passes in a run than may by the manual, so that their queues are too short or aren't there."""
+    over = sorted((one for one in groups if one.most > BEYOND), key=lambda one: -one.most)
+    if over:
+        yield ""
+    for one in over[:MOST_TOLD]:
+        yield f"{one.name}: {one.most:.0%} pass of what may by the Highway Capacity Manual, so its queue is too short"
+    if len(over) > MOST_TOLD:
+        yield f"and {len(over) - MOST_TOLD} more of which too many pass"
 
 
 def green_rows(report: Report) -> tuple[str, list[tuple[str, ...]]]:
@@ -73,7 +93,7 @@ def green_rows(report: Report) -> tuple[str, list[tuple[str, ...]]]:
     greens = waits_at_greens(report) if report.recorded and report.network is not None else []
     if not any(one.vehicles for one in greens):
         return "", []
-    hours, others = sum(one.hours for one in greens), sum(one["hours"] for one in report.units.giving_way)
+    hours, others = sum(one.hours for one in greens), sum(one.hours for one in report.units.at_random.giving_way)
     more = f", with those who give way {hours + others:,.2f}" if others else ""
     return f"{hours:,.2f} vehicle-hours{more}", [_row(one) for one in sorted(greens, key=lambda one: -one.hours)]
 

@@ -10,13 +10,14 @@ from __future__ import annotations
 from collections.abc import Callable, Mapping, Sequence
 from dataclasses import dataclass, replace
 
-from ..program import recording_step
+from ..arrays import Numbers
+from ..program.calls import recording_step
 from ..report.reading import Report
 from ..study.network_text import Built, build
-from ..study.plan import Study
-from .conflicts import Numbers
+from ..study.plan import Scenario
+from ..units import Loss
 from .messages import passing_lines
-from .yielding import Waits, Yielding
+from .yielding import Yielding
 
 MOST_RUNS = 20
 LEAST_MOVE = 0.01  # by which a limit moves, as a part of it, below which it is settled
@@ -35,11 +36,11 @@ class Settled:
     `waits` are what vehicles lose by coming at random, for each of the study's `yields`.
     """
 
-    study: Study
+    study: Scenario
     built: Built
     runs: int
     moved: float
-    waits: Sequence[Waits] = ()
+    waits: Sequence[Loss] = ()
 
     @property
     def is_settled(self) -> bool:
@@ -52,13 +53,13 @@ class Settled:
         return "" if self.is_settled else f"who gives way isn't settled after {self.runs} runs, a limit moves by {self.moved:.1%}"
 
 
-def settled(study: Study, run: Run, done: Done | None = None, shares_follow: bool = False) -> Settled:
+def settled(study: Scenario, run: Run, done: Done | None = None, shares_follow: bool = False) -> Settled:
     """The network of a study in which those give way who do; without any it is built as it stands."""
     built = build(study, shares_follow)
     if not study.yields:
         return Settled(study, built, 0, 0.0)
     ones = [Yielding(one, study, built) for one in study.yields]
-    every = recorded_every(ones, recording_step(built.network.steps, len(built.network.cells)))
+    every = recorded_every(ones, recording_step(built.network.steps, len(built.network.kinds)))
     runs, moves, before, part = 0, [float("inf")], float("inf"), 1.0
     while True:
         reports, runs = run(built, sorted(set(every.values()))), runs + 1
@@ -80,7 +81,7 @@ def settled(study: Study, run: Run, done: Done | None = None, shares_follow: boo
     return Settled(study, built, runs, max(moves), waits)
 
 
-def limited(study: Study, ones: Sequence[Yielding], wanted: Sequence[Numbers], part: float) -> Study:
+def limited(study: Scenario, ones: Sequence[Yielding], wanted: Sequence[Numbers], part: float) -> Scenario:
     """The study with limits that go a part of the way to what is wanted."""
     for one, rates in zip(ones, wanted):
         one.take(rates, part)
@@ -100,8 +101,10 @@ def recorded_every(ones: Sequence[Yielding], least: int) -> dict[int, int]:
 def wanted_of(ones: Sequence[Yielding], reports: Recorded) -> list[Numbers]:
     """What passes of each by the flows of a run, whose reports are by the widths of intervals.
 
-    Who gives way in turn to one that gives way is held up by its queue too.
+    Who gives way in turn to one that gives way is held up by its queue too, and who shares a lane by all in it.
     """
     potential = {one.cell: one.potential(reports[one.width]) for one in ones}
     unsignalled = {one.cell: one for one in ones if one.green is None}
-    return [potential[one.cell] * one.unimpeded(reports[one.width], unsignalled, potential) for one in ones]
+    alone = [potential[one.cell] * one.unimpeded(reports[one.width], unsignalled, potential) for one in ones]
+    means = {one.cell: one.mean(rates) for one, rates in zip(ones, alone)}
+    return [one.in_lanes(reports[one.width], rates, means) for one, rates in zip(ones, alone)]

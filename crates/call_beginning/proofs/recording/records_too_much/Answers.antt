@@ -1,6 +1,6 @@
 use Rattle.std.proofs.Common.{◌≡◌, ◌≤◌, ◌*◌, ◌^◌, length, arith, ap, subst}
 use Rattle.std.proofs.Math.Nat.{mul-le-mul_right}
-use Rattle.network_file.specs.Network.{IsNetwork}
+use Rattle.network_file.specs.Sound.{IsNetwork}
 use Rattle.network_file.proofs.NetworkFacts.{few_cells}
 use Rattle.call_beginning.proofs.recording.records_too_much.Goals as goal
 

@@ -1,7 +1,7 @@
 use Rattle.std.proofs.Common.{◌≡◌, ◌++◌, length}
 use Rattle.std.specs.List.{flat_map}
 use Rattle.converted_file.specs.Converted.{record_line}
-use Rattle.record_fields.specs.FileRecords.{IsReading, records_left}
+use Rattle.record_fields.specs.FileReading.{IsReading, records_left}
 use Rattle.converted_file.proofs.conversion.with_lines.Given as goal
 
 -- the text, and then the lines of the records that are left

@@ -11,7 +11,7 @@ returns-in-Err-input_of-clause-refusal g c =
 
 pub returns-clause-text : goal.returns-clause-text
 returns-clause-text g c =
-    answered_text (g.W.Observer.told_held c.args.observer.now) (g.W.Observer.told_freed c.args.observer.now) (g.W.Observer.told_watched c.args.observer.now) (λ text. text.items) (requested c.args.words.now) c.in-Ok.request (g.S.Source.left c.args.source.now) c.deref.result.now c.in-Ok.ensures.accepted (rw c.deref.ensures.value c.in-Ok-input_of.ensures.input.0) (rw c.deref.ensures.value c.in-Ok-input_of.ensures.input.1) c.text_of.result
+    answered_text (g.W.Observer.told_held c.args.observer.now) (g.W.Observer.told_freed c.args.observer.now) (g.W.Observer.told_watching c.args.observer.now) (g.W.Observer.told_watched c.args.observer.now) (λ text. text.items) (requested c.args.words.now) c.in-Ok.request (g.S.Source.left c.args.source.now) c.deref.result.now c.in-Ok.ensures.accepted (rw c.deref.ensures.value c.in-Ok-input_of.ensures.input.0) (rw c.deref.ensures.value c.in-Ok-input_of.ensures.input.1) c.text_of.result
     c.text_of.ensures.text c.text_of.ensures.told
 
 pub returns-clause-refusal : goal.returns-clause-refusal

@@ -2,7 +2,7 @@ use Rattle.std.specs.Prelude.{All, map, slice_index, sum}
 use Rattle.std.specs.List.{AllZip}
 use Rattle.std.proofs.Common.{◌≡◌, ℕ, ◌<◌, ◌+◌, ◌-◌, ◌*◌, ◌/◌, ◌%◌, ◌^◌, List, length, get_or, refl, ap, arith, subst, sym, ◌∙◌}
 use Rattle.std.proofs.lemmas.List.{get_or_default}
-use Rattle.network_file.specs.Network.{IsNetwork}
+use Rattle.network_file.specs.Sound.{IsNetwork}
 use Rattle.network_file.proofs.NetworkFacts.{few_cells, few_connectors, few_records}
 use Rattle.cut_grow.specs.Grown.{runs_from}
 use Rattle.cut_grow.specs.Most.{AreGainsOf, most}

@@ -2,8 +2,9 @@ use Rattle.std.specs.Prelude.{All, count_by}
 use Rattle.std.proofs.Common.{◌≡◌, ℕ, ◌<◌, ◌+◌, List, length, ap, arith, subst, sym, ◌∙◌}
 use Rattle.std.proofs.lemmas.List.{take_all}
 use Rattle.std.proofs.lemmas.List.Sums.{count_by_more_no, count_by_more_yes}
-use Rattle.network_file.specs.Connectors.{cells_of, connector_at}
-use Rattle.network_file.specs.Network.{IsNetwork}
+use Rattle.network_file.specs.Connectors.{cells_of}
+use Rattle.network_file.specs.Numbered.{connector_at}
+use Rattle.network_file.specs.Sound.{IsNetwork}
 use Rattle.network_file.specs.declared.connector.Connector.{Connector}
 use Rattle.network_file.specs.declared.connector.Connector.TheVariants.{Link}
 use Rattle.network_file.proofs.NetworkFacts.{few_connectors, read_connector}

@@ -1,6 +1,6 @@
 use Rattle.std.specs.List.{list_any}
 use Rattle.std.proofs.Common.{◌<◌, get_or, eqb, ap, arith, sym, ◌∙◌}
-use Rattle.network_file.specs.Connectors.{connector_at}
+use Rattle.network_file.specs.Numbered.{connector_at}
 use Rattle.network_file.specs.declared.connector.Connector.{Connector}
 use Rattle.network_file.specs.declared.connector.Connector.TheVariants.{Link}
 use Rattle.cut_grow.proofs.Connectors.{two-all, two-is}

@@ -2,7 +2,8 @@ use Rattle.std.specs.Prelude.{nat_lt, ◌&&◌, ◌||◌}
 use Rattle.std.specs.List.{list_any}
 use Rattle.std.proofs.Common.{◌≡◌, ℕ, ◌<◌, Bool, true, false, length, get_or, min, eqb, ap, arith, subst, sym, ◌∙◌}
 use Rattle.std.proofs.lemmas.Bool.{lt-ltb}
-use Rattle.network_file.specs.Connectors.{connector_at, touches}
+use Rattle.network_file.specs.Connectors.{touches}
+use Rattle.network_file.specs.Numbered.{connector_at}
 use Rattle.network_file.specs.declared.connector.Connector.{Connector}
 use Rattle.network_file.specs.declared.connector.Connector.TheVariants.{Link}
 use Rattle.cut_grow.specs.Least.{IsLeast}

@@ -2,7 +2,7 @@ use Rattle.std.specs.Prelude.{count_by, replicate, slice_set, ◌&&◌}
 use Rattle.std.proofs.Common.{◌≡◌, ℕ, ◌<◌, ◌≤◌, false, true, List, [], ◌∷◌, ◌++◌, length, get_or, ap, arith, subst, sym, ◌∙◌}
 use Rattle.std.proofs.lemmas.List.{get_or_default, length_push}
 use Rattle.network_file.specs.Connectors.{are_joined, leads_into, leads_out_of}
-use Rattle.network_file.specs.Network.{IsNetwork}
+use Rattle.network_file.specs.Sound.{IsNetwork}
 use Rattle.network_file.specs.declared.connector.Connector.{Connector}
 use Rattle.cut_grow.specs.Least.{IsLeast}
 use Rattle.cut_grow.specs.Sides.{AreThere, IsClosed, IsOpen, is_free}

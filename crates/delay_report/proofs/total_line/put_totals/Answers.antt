@@ -1,8 +1,9 @@
 use Rattle.std.specs.Int.{w128}
 use Rattle.std.proofs.Common.{◌≡◌, ◌<◌, ◌^◌, ℕ, List, ◌++◌, ap, append_assoc, arith, length, pos, rules, subst, to_z, of_z, ◌∙◌}
-use Rattle.network_file.specs.Network.{IsNetwork}
+use Rattle.network_file.specs.Sound.{IsNetwork}
 use Rattle.network_file.proofs.NetworkFacts.{few_cells}
-use Rattle.flow_ledger.specs.Books.{books_of, entered_of, inside_of, left_of}
+use Rattle.flow_ledger.specs.Books.{entered_of, inside_of, left_of}
+use Rattle.flow_ledger.specs.Balances.{books_of}
 use Rattle.line_fields.specs.Fields.{amount_field}
 use Rattle.flow_model.specs.State.{delay_of}
 use Rattle.delay_report.specs.Report.{totals}

@@ -1,7 +1,7 @@
 use Rattle.std.proofs.Common.{arith, subst}
 use Rattle.std.proofs.lemmas.Int.{ints}
-use Rattle.network_file.specs.Network.{IsNetwork}
-use Rattle.flow_ledger.specs.Books.{books_of}
+use Rattle.network_file.specs.Sound.{IsNetwork}
+use Rattle.flow_ledger.specs.Balances.{books_of}
 use Rattle.flow_ledger.proofs.BooksLaws.{books-at_one_step, books-law}
 use Rattle.flow_ledger.proofs.balance.books.Goals as goal
 

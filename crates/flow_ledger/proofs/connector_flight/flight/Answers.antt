@@ -1,6 +1,6 @@
 use Rattle.std.proofs.Common.{◌≡◌, arith, subst, sym, ap, ◌∙◌}
 use Rattle.std.proofs.lemmas.Int.{ints}
-use Rattle.network_file.specs.Network.{IsNetwork}
+use Rattle.network_file.specs.Sound.{IsNetwork}
 use Rattle.network_file.proofs.NetworkFacts.{read_connector}
 use Rattle.flow_ledger.specs.Flight.{flight_by, flight_of}
 use Rattle.flow_ledger.proofs.FlightLaws.{flight-at_one_step, flight-law}

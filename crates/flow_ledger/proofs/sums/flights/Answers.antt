@@ -3,9 +3,9 @@ use Rattle.std.specs.Int.{w128}
 use Rattle.std.specs.List.{fold}
 use Rattle.std.proofs.lemmas.List.{take_all}
 use Rattle.std.proofs.lemmas.List.Sums.{fold_more}
-use Rattle.network_file.specs.Network.{IsNetwork}
+use Rattle.network_file.specs.Sound.{IsNetwork}
 use Rattle.network_file.specs.declared.connector.Connector.{Connector}
-use Rattle.flow_ledger.specs.Books.{flights_of}
+use Rattle.flow_ledger.specs.Balances.{flights_of}
 use Rattle.flow_ledger.specs.Flight.{flight_by}
 use Rattle.flow_ledger.proofs.SignedSums.{IsSumOf, one_flight_more, stored_sum}
 use Rattle.network_file.proofs.NetworkFacts.{few_connectors}

@@ -1,6 +1,6 @@
 use Rattle.std.proofs.Common.{ap, ◌∙◌}
 use Rattle.std.proofs.lemmas.List.{take_all}
-use Rattle.flow_ledger.specs.Books.{initial_of}
+use Rattle.flow_ledger.specs.Balances.{initial_of}
 use Rattle.flow_ledger.proofs.sums.initial.Goals as goal
 
 pub returns-clause-sum : goal.returns-clause-sum

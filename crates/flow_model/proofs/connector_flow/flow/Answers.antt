@@ -1,6 +1,7 @@
 use Rattle.std.proofs.Common.{sym, subst, ap}
-use Rattle.network_file.specs.Connectors.{cells_of, connector_at}
-use Rattle.network_file.specs.Network.{IsNetwork, IsSoundConnector}
+use Rattle.network_file.specs.Connectors.{cells_of}
+use Rattle.network_file.specs.Numbered.{connector_at}
+use Rattle.network_file.specs.Sound.{IsNetwork, IsSoundConnector}
 use Rattle.flow_model.specs.Bounds.{AreHeldInBounds}
 use Rattle.flow_model.specs.FlowLaw.{SendsAtMost, ReceivesAtMost}
 use Rattle.flow_model.proofs.Connectors.{flow_between-conserved, flow_between-sends, flow_between-receives}

@@ -1,6 +1,6 @@
 use Rattle.std.proofs.Common.{◌≡◌, length, map, arith, subst, sym, ap}
 use Rattle.std.proofs.lemmas.List.{ext_get_or, length-map}
-use Rattle.network_file.specs.Network.{IsNetwork}
+use Rattle.network_file.specs.Sound.{IsNetwork}
 use Rattle.flow_model.specs.Rows.{empty_row}
 use Rattle.flow_model.specs.State.{state_at}
 use Rattle.flow_model.proofs.States.{first_row, state_at-in_bounds, AreInBounds-KeepsRooms}

@@ -1,5 +1,5 @@
 use Rattle.std.proofs.Common.{◌≡◌, length, arith, subst, sym, ap, ◌∙◌}
-use Rattle.network_file.specs.Network.{IsNetwork}
+use Rattle.network_file.specs.Sound.{IsNetwork}
 use Rattle.flow_model.specs.State.{next_rows}
 use Rattle.flow_model.proofs.States.{next_rows-all, next_rows-in_bounds, state_at-next}
 use Rattle.flow_model.proofs.step.plain_step.Goals as goal

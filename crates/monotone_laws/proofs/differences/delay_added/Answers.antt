@@ -1,5 +1,5 @@
 use Rattle.std.proofs.Common.{◌≤◌, arith, subst}
-use Rattle.network_file.specs.Network.{IsNetwork}
+use Rattle.network_file.specs.Sound.{IsNetwork}
 use Rattle.flow_model.specs.State.{delay_of}
 use Rattle.monotone_laws.proofs.AtOneStep.{delay-no_less}
 use Rattle.monotone_laws.proofs.differences.delay_added.Goals as goal

@@ -1,5 +1,5 @@
 use Rattle.std.proofs.Common.{arith, subst}
-use Rattle.network_file.specs.Network.{IsNetwork}
+use Rattle.network_file.specs.Sound.{IsNetwork}
 use Rattle.monotone_laws.proofs.AtOneStep.{come-no_less, gone-no_less, length-first, length-second}
 use Rattle.monotone_laws.proofs.differences.more_gone.Goals as goal
 

@@ -1,6 +1,6 @@
 use Rattle.std.specs.Prelude.{codes, flat_map}
 use Rattle.std.proofs.Common.{◌≡◌, [], ◌∷◌, append_assoc, arith}
-use Rattle.net_make.specs.Made.{cell_lines, cells, main_cells}
+use Rattle.net_make.specs.Made.{main_cell_lines, cells, main_cells}
 use Rattle.net_make.proofs.LineOrder.{text_of-append, text_of-cells-more}
 use Rattle.net_make.proofs.cells.put_cells.Goals as goal
 
@@ -11,5 +11,5 @@ pub returns : goal.returns
 unfolding cells
 returns c =
     let all : c.loop-i.i ≡ c.args.size = omega arith in
-    let last = text_of-append (flat_map (cell_lines c.args.size) (main_cells c.args.size)) (codes "exit,out,4" ∷ []) in
+    let last = text_of-append (flat_map (main_cell_lines c.args.size) (main_cells c.args.size)) (codes "exit,out,4" ∷ []) in
     rw (c.in_ok-extend_from_slice.ensures.items, c.loop-i.invariant, all, last) (simp append_assoc)

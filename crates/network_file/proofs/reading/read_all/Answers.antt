@@ -1,5 +1,6 @@
 use Rattle.std.proofs.Common.{rules, ◌≡◌, ◌∙◌, ◌∷◌, arith, length, sym, ap}
-use Rattle.record_fields.specs.FileRecords.{file_records_of, records_left}
+use Rattle.record_fields.specs.FileRecords.{file_records_of}
+use Rattle.record_fields.specs.FileReading.{records_left}
 use Rattle.network_file.specs.Reading.{read_records}
 use Rattle.record_fields.proofs.RecordLemmas.{length-file_records_of}
 use Rattle.network_file.proofs.ReadingLemmas.{network_of-headless, network_of-misheaded, network_of-headed}

@@ -1,7 +1,7 @@
 use Rattle.std.proofs.Common.{◌≡◌, ◌∙◌, [], List, ℕ, arith, length, ap}
 use Rattle.std.specs.Prelude.{Result}
 use Rattle.network_file.specs.Draft.{Draft}
-use Rattle.record_fields.specs.FileRecords.{records_left}
+use Rattle.record_fields.specs.FileReading.{records_left}
 use Rattle.network_file.specs.Network.{Network}
 use Rattle.network_file.specs.Reading.{at_place, network_in_all, read_records}
 use Rattle.network_file.specs.declared.fault.NetFault.{NetFault}

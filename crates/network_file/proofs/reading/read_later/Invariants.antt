@@ -1,5 +1,5 @@
 use Rattle.std.proofs.Common.{◌≡◌, ◌≤◌, ◌+◌, length}
-use Rattle.record_fields.specs.FileRecords.{IsReading, records_left}
+use Rattle.record_fields.specs.FileReading.{IsReading, records_left}
 use Rattle.network_file.specs.Limits.{most_bytes}
 use Rattle.network_file.specs.Reading.{read_records}
 use Rattle.network_file.proofs.reading.read_later.Given as goal

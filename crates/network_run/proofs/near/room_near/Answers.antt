@@ -1,8 +1,9 @@
-use Rattle.std.proofs.Common.{◌≡◌, [], ap, arith, subst, sym, ◌∙◌}
+use Rattle.std.proofs.Common.{◌≡◌, ℕ, [], ap, arith, subst, sym, ◌∙◌}
 use Rattle.region_cut.specs.Cuttings.{region_count}
 use Rattle.border_rows.specs.declared.view.Terms.{Terms}
 use Rattle.border_rows.specs.declared.view.View.{View}
 use Rattle.region_slots.specs.Moments.{AreTold, cut_run}
+use Rattle.network_run.specs.Near.{near_end}
 use Rattle.network_run.specs.Telling.{HasTold, Telling}
 use Rattle.network_run.proofs.Told.{told-logged}
 use Rattle.network_run.proofs.near.room_near.Goals as goal
@@ -29,9 +30,11 @@ returns-clause-told g c = λ done.
     let told : AreTold (held (cut_run terms.setup.now)) (freed (cut_run terms.setup.now)) [] log =
     subst (λ own. AreTold (held (cut_run terms.setup.now)) (freed (cut_run terms.setup.now)) own log) (ap (λ (v : View). v.log) c.in_ok-run.ensures.knows)
     (subst (λ (t : Terms). AreTold (held (cut_run t.setup.now)) (freed (cut_run t.setup.now)) c.in_ok-run.run'.knows.log log) (sym c.show_near.ensures.terms) c.show_near.ensures.told) in
-    let came : HasTold held freed (cut_run terms.setup.now) c.min.result =
-    told-logged held freed (cut_run terms.setup.now) c.min.result log (c.close-closed.ensures.logged c.min.result (λ r there. c.show_near.ensures.done r (omega (arith, there, first)))) told in
+    let end : ℕ = near_end c.args.setup.now.net c.min.result in
+    let done = rw c.layout-layout.ensures.network at c.show_near.ensures.done in
+    let came : HasTold held freed (cut_run terms.setup.now) end =
+    told-logged held freed (cut_run terms.setup.now) end log (c.close-closed.ensures.logged end (λ r there. done r (omega (arith, there, first)))) told in
     let steps : c.net.inside.steps ≡ c.args.setup.now.net.steps = ap (λ n. n.steps) (c.net.view_is ∙ c.net-net.ensures.network ∙ c.layout-layout.ensures.network) in
-    let run : HasTold held freed (cut_run c.args.setup.now) c.min.result =
-    subst (λ (t : Terms). HasTold held freed (cut_run t.setup.now) c.min.result) (c.show_near.ensures.terms ∙ c.in_ok-run.ensures.terms) came in
+    let run : HasTold held freed (cut_run c.args.setup.now) end =
+    subst (λ (t : Terms). HasTold held freed (cut_run t.setup.now) end) (c.show_near.ensures.terms ∙ c.in_ok-run.ensures.terms) came in
     λ r s within started below. run r s within started (omega (arith, below, c.min.ensures, steps))

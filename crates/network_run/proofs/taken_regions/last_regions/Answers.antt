@@ -2,7 +2,7 @@ use Rattle.std.specs.Prelude.{slice_index}
 use Rattle.std.proofs.Common.{◌≡◌, ap, subst, sym, ◌∙◌, arith}
 use Rattle.region_step.specs.Regions.{AreAt}
 use Rattle.region_step.specs.Setup.{SetupValue}
-use Rattle.region_step.specs.Start.{IsTrueStart}
+use Rattle.region_step.specs.Starting.{IsTrueStart}
 use Rattle.region_step.proofs.Steps.{zero_start-at}
 use Rattle.region_slots.specs.Moments.{cut_run}
 use Rattle.network_run.specs.Telling.{HasTold, Telling}

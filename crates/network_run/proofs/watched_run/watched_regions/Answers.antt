@@ -7,7 +7,8 @@ use Rattle.region_step.proofs.Steps.{zero_start-at}
 use Rattle.border_rows.specs.declared.view.Terms.{Terms}
 use Rattle.border_rows.specs.declared.view.View.{View}
 use Rattle.region_slots.specs.Moments.{AreTold, cut_run}
-use Rattle.network_run.specs.Telling.{HasTold, HasToldShots, Telling}
+use Rattle.network_run.specs.Telling.{HasTold, Telling}
+use Rattle.network_run.specs.ToldShots.{AreToldShots}
 use Rattle.network_run.proofs.Told.{told-logged}
 use Rattle.network_run.proofs.watched_run.watched_regions.Goals as goal
 
@@ -49,6 +50,6 @@ returns-clause-told g c = λ done.
     subst (λ (t : Terms). HasTold held freed (cut_run t.setup.now) last) same
     (told-logged held freed (cut_run terms.setup.now) last log (c.close-steps.ensures.logged last (λ r there. omega (arith, taken.last refl r (omega (arith, there, count, chart)), steps))) told)
 
-pub returns-clause-told_shots : goal.returns-clause-told_shots
-returns-clause-told_shots g c = λ done.
-    subst (λ (t : Terms). HasToldShots (g.W.Observer.told_watched c.args.observer.now) (cut_run t.setup.now) c.args.shots) c.in_ok-run.ensures.terms (c.in_ok-take_shots.ensures.told_shots refl)
+pub returns-clause-shots : goal.returns-clause-shots
+returns-clause-shots g c =
+    subst (λ (t : Terms). AreToldShots (g.W.Observer.told_watching c.args.observer.now) (g.W.Observer.told_watched c.args.observer.now) (cut_run t.setup.now) c.args.shots c.take_shots.new.text.items) c.in_ok-run.ensures.terms (c.in_ok-take_shots.ensures.shots refl)

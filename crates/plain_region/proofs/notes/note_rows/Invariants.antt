@@ -1,6 +1,6 @@
 use Rattle.std.specs.Prelude.{vec_capacity}
 use Rattle.std.proofs.Common.{◌≡◌, ◌≤◌, ◌++◌, take}
-use Rattle.region_step.specs.Recording.{notes_of}
+use Rattle.region_step.specs.Noting.{notes_of}
 use Rattle.plain_region.proofs.notes.note_rows.Given as goal
 
 abbrev pub invariant-loop-row : goal.invariant-loop-row

@@ -3,7 +3,7 @@ use Rattle.std.proofs.lemmas.Result.{IfOk-weaker}
 use Rattle.flow_model.specs.State.{delay_of, state_at}
 use Rattle.region_step.specs.Regions.{HaveCome, RegionsValue}
 use Rattle.region_step.specs.Setup.{SetupValue}
-use Rattle.region_step.specs.Start.{IsTrueStart}
+use Rattle.region_step.specs.Starting.{IsTrueStart}
 use Rattle.plan_choice.proofs.whole_run.whole_delay.Goals as goal
 
 pub new-requires-2 : goal.new-requires-2

@@ -1,5 +1,5 @@
 use Rattle.std.proofs.Common.{refl}
-use Rattle.record_fields.specs.FileRecords.{records_left}
+use Rattle.record_fields.specs.FileReading.{records_left}
 use Rattle.record_fields.proofs.file_records.open_records.Goals as goal
 
 pub returns-clause-left : goal.returns-clause-left

@@ -1,17 +1,17 @@
 use Rattle.std.proofs.Common.{◌≡◌, ℕ, ap, ◌∙◌, arith}
-use Rattle.region_body.specs.CellStates.{cell_state_at, with_entered}
+use Rattle.cell_sweep.specs.CellStates.{cell_state_at, with_entered}
 use Rattle.region_body.specs.Carrying.{brought, taken}
-use Rattle.region_body.specs.CellRefs.{held_before, parts_at, ref_at}
+use Rattle.region_body.specs.CellRefs.{given_before, parts_at, ref_at}
 use Rattle.region_body.proofs.MovedStates.{can-bring, can-take}
 use Rattle.region_body.proofs.Ruled.{link-moves}
 use Rattle.region_body.proofs.carry.link.Goals.{After-carried-flow}
 use Rattle.region_body.proofs.carry.link.Goals as goal
 
 moves : (c : After-carried-flow) (p : ℕ) →
-    (taken c.args.t (held_before c.args.before.now c.args.put.now) p c.args.connector.now ≡ parts_at (ref_at c.args.connector.now.cells 0) c.carried-flow.result.out1 p) ×
-    (brought c.args.t (held_before c.args.before.now c.args.put.now) p c.args.connector.now ≡ parts_at (ref_at c.args.connector.now.cells 1) c.carried-flow.result.in1 p)
+    (taken c.args.t (given_before c.args.speeds.now c.args.before.now c.args.put.now) p c.args.connector.now ≡ parts_at (ref_at c.args.connector.now.cells 0) c.carried-flow.result.out1 p) ×
+    (brought c.args.t (given_before c.args.speeds.now c.args.before.now c.args.put.now) p c.args.connector.now ≡ parts_at (ref_at c.args.connector.now.cells 1) c.carried-flow.result.in1 p)
 moves c p =
-    link-moves c.args.t (held_before c.args.before.now c.args.put.now) p c.args.connector.now c.carried-flow.result c.requires.rule
+    link-moves c.args.t (given_before c.args.speeds.now c.args.before.now c.args.put.now) p c.args.connector.now c.carried-flow.result c.requires.rule
     c.carried-flow.ensures
 
 pub carried-flow-requires : goal.carried-flow-requires

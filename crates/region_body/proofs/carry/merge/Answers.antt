@@ -1,18 +1,18 @@
 use Rattle.std.proofs.Common.{◌≡◌, ◌+◌, ℕ, ap, ◌∙◌, arith}
-use Rattle.region_body.specs.CellStates.{cell_state_at, with_entered, with_left}
+use Rattle.cell_sweep.specs.CellStates.{cell_state_at, with_entered, with_left}
 use Rattle.region_body.specs.Carrying.{brought, taken}
-use Rattle.region_body.specs.CellRefs.{held_before, parts_at, ref_at}
+use Rattle.region_body.specs.CellRefs.{given_before, parts_at, ref_at}
 use Rattle.region_body.proofs.MovedStates.{can-bring, can-take, can-take-more, left-twice}
 use Rattle.region_body.proofs.Ruled.{merge-moves}
 use Rattle.region_body.proofs.carry.merge.Goals.{After-carried-flow}
 use Rattle.region_body.proofs.carry.merge.Goals as goal
 
 moves : (c : After-carried-flow) (p : ℕ) →
-    (taken c.args.t (held_before c.args.before.now c.args.put.now) p c.args.connector.now ≡
+    (taken c.args.t (given_before c.args.speeds.now c.args.before.now c.args.put.now) p c.args.connector.now ≡
     parts_at (ref_at c.args.connector.now.cells 0) c.carried-flow.result.out1 p + parts_at (ref_at c.args.connector.now.cells 1) c.carried-flow.result.out2 p) ×
-    (brought c.args.t (held_before c.args.before.now c.args.put.now) p c.args.connector.now ≡ parts_at (ref_at c.args.connector.now.cells 2) c.carried-flow.result.in1 p)
+    (brought c.args.t (given_before c.args.speeds.now c.args.before.now c.args.put.now) p c.args.connector.now ≡ parts_at (ref_at c.args.connector.now.cells 2) c.carried-flow.result.in1 p)
 moves c p =
-    merge-moves c.args.t (held_before c.args.before.now c.args.put.now) p c.args.connector.now c.carried-flow.result c.requires.rule
+    merge-moves c.args.t (given_before c.args.speeds.now c.args.before.now c.args.put.now) p c.args.connector.now c.carried-flow.result c.requires.rule
     c.carried-flow.ensures
 
 pub carried-flow-requires : goal.carried-flow-requires

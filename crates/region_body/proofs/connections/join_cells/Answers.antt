@@ -1,6 +1,6 @@
 use Rattle.std.specs.Prelude.{All}
 use Rattle.std.proofs.Common.{◌≡◌, ◌<◌, ℕ, true, false, length, get_or, ap, subst, arith}
-use Rattle.network_file.specs.Connectors.{connector_at}
+use Rattle.network_file.specs.Numbered.{connector_at}
 use Rattle.network_file.proofs.NetworkFacts.{read_connector}
 use Rattle.region_body.specs.FollowedLinks.{IsLinkThere}
 use Rattle.region_body.specs.Chains.{is_chained, is_link}

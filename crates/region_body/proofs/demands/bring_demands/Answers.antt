@@ -1,7 +1,7 @@
 use Rattle.std.proofs.Common.{◌≡◌, ◌<◌, ◌+◌, ◌^◌, ℕ, get_or, length, refl, sym, ap, ◌∙◌, arith}
 use Rattle.std.proofs.lemmas.List.{get_or_default, length-set}
-use Rattle.region_body.proofs.Sets.{done_more, rest_more}
-use Rattle.region_body.specs.CellStates.{cell_state_at, with_entered}
+use Rattle.cell_sweep.proofs.Sets.{done_more, rest_more}
+use Rattle.cell_sweep.specs.CellStates.{cell_state_at, with_entered}
 use Rattle.timelines.specs.Timelines.{value_at}
 use Rattle.region_body.specs.Gates.{asked, demand_into}
 use Rattle.region_body.specs.declared.gate.GatePlace.{GatePlace}

@@ -1,6 +1,6 @@
 use Rattle.std.specs.List.{sum_by}
 use Rattle.std.proofs.Common.{◌≡◌, ◌<◌, ◌≤◌, ℕ, length, get_or, take}
-use Rattle.region_body.specs.CellStates.{cell_state_at, with_entered}
+use Rattle.cell_sweep.specs.CellStates.{cell_state_at, with_entered}
 use Rattle.region_body.specs.Gates.{asked, demand_into}
 use Rattle.region_body.specs.declared.gate.GatePlace.{GatePlace}
 use Rattle.region_body.proofs.demands.bring_demands.Given as goal

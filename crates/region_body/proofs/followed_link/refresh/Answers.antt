@@ -3,8 +3,8 @@ use Rattle.std.proofs.Common.{◌≡◌, ◌<◌, ℕ, length, ap, subst, arith}
 use Rattle.std.proofs.Math.ListN.{get_or, length-set}
 use Rattle.std.proofs.lemmas.List.{get_or_default}
 use Rattle.region_body.specs.FollowedLinks.{IsChanged, IsUnchanged}
-use Rattle.region_body.specs.CellStates.{cell_state_at}
-use Rattle.region_body.specs.declared.cell_state.CellState.{CellState}
+use Rattle.cell_sweep.specs.CellStates.{cell_state_at}
+use Rattle.cell_sweep.specs.declared.cell_state.CellState.{CellState}
 use Rattle.region_body.specs.declared.followed_link.FollowedLink.{FollowedLink}
 use Rattle.region_body.proofs.Following.{refreshed-all, refreshed-more, refreshed-none, there-more}
 use Rattle.region_body.proofs.followed_link.refresh.Goals as goal

@@ -1,6 +1,6 @@
 use Rattle.std.proofs.Common.{◌≡◌, ◌<◌, ℕ, true, length, get_or, subst, sym, arith}
 use Rattle.std.proofs.lemmas.List.{get_or_default, take_all}
-use Rattle.region_body.specs.Speeds.{is_listed}
+use Rattle.region_body.specs.FollowedSpeeds.{is_listed}
 use Rattle.region_body.specs.declared.followed_speed.FollowedSpeed.{FollowedSpeed}
 use Rattle.region_body.proofs.SpeedTimelines.{written-more}
 use Rattle.region_body.proofs.followed_speed.follow_all_speeds.Goals as goal

@@ -1,6 +1,6 @@
 use Rattle.std.specs.Prelude.{slice_index}
 use Rattle.std.proofs.Common.{◌≡◌, ◌+◌, ℕ, List, refl, sym, ap, ◌∙◌, arith}
-use Rattle.signal_plan.specs.Records.{PlanRecords}
+use Rattle.step_plan.specs.Records.{PlanRecords}
 use Rattle.timelines.specs.Timelines.{IsSteady}
 use Rattle.timelines.specs.Links.{LinkValues, most_at, most_between}
 use Rattle.region_body.specs.declared.followed_link.FollowedLink.{FollowedLink}

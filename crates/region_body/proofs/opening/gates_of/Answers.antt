@@ -5,7 +5,7 @@ use Rattle.std.proofs.lemmas.List.{append-nil, map-append}
 use Rattle.std.proofs.lemmas.List.Elements.{All-push}
 use Rattle.network_file.specs.Cells.{is_gate_at}
 use Rattle.region_cut.proofs.Ranges.{filter_range_more}
-use Rattle.signal_plan.specs.Demand.{demand_at}
+use Rattle.step_plan.specs.Demand.{demand_at}
 use Rattle.region_body.specs.Gates.{IsGateOf}
 use Rattle.region_body.specs.declared.gate.GatePlace.{GatePlace}
 use Rattle.region_body.proofs.opening.gates_of.Goals.{then-is_gate+in_ok-demand_of+in_ok-push, else-is_gate}

@@ -2,7 +2,7 @@ use Rattle.std.specs.Prelude.{slice_index}
 use Rattle.std.proofs.Common.{arith}
 use Rattle.std.proofs.lemmas.List.{length_push}
 use Rattle.flow_model.specs.State.{row_at}
-use Rattle.region_body.specs.CellStates.{no_state}
+use Rattle.cell_sweep.specs.CellStates.{no_state}
 use Rattle.region_body.specs.First.{IsFirst}
 use Rattle.region_body.proofs.Pushes.{each_push}
 use Rattle.region_body.proofs.opening.states_of.Goals as goal

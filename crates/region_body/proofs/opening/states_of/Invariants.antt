@@ -1,7 +1,7 @@
 use Rattle.std.specs.Prelude.{slice_index}
 use Rattle.std.proofs.Common.{◌≡◌, ◌<◌, ℕ, length}
 use Rattle.flow_model.specs.State.{row_at}
-use Rattle.region_body.specs.CellStates.{cell_state_at}
+use Rattle.cell_sweep.specs.CellStates.{cell_state_at}
 use Rattle.region_body.specs.First.{IsFirst}
 use Rattle.region_body.proofs.opening.states_of.Given as goal
 

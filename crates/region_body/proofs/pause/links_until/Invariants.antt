@@ -1,6 +1,6 @@
 use Rattle.std.specs.Prelude.{All, ◌⊎◌}
 use Rattle.std.proofs.Common.{◌≡◌, ◌≤◌, take}
-use Rattle.region_body.specs.CellStates.{cell_state_at}
+use Rattle.cell_sweep.specs.CellStates.{cell_state_at}
 use Rattle.region_body.proofs.pause.links_until.Given as goal
 
 abbrev pub invariant-loop-link : goal.invariant-loop-link

@@ -2,8 +2,9 @@ use Rattle.std.specs.Prelude.{slice_index, ◌==◌, ◌||◌}
 use Rattle.std.proofs.Common.{◌≡◌, Bool, true, false, inl, inr, ℕ, refl, ap, sym, ◌∙◌, arith}
 use Rattle.std.proofs.lemmas.Bool.{cases_eq, eq-eqb}
 use Rattle.std.proofs.lemmas.List.Elements.{All-push}
-use Rattle.signal_plan.specs.Speeds.{speed_at}
-use Rattle.region_body.specs.Speeds.{IsSpeedOpened, is_listed, is_slow}
+use Rattle.step_plan.specs.Speeds.{speed_at}
+use Rattle.cell_sweep.specs.Speeds.{is_slow}
+use Rattle.region_body.specs.FollowedSpeeds.{IsSpeedOpened, is_listed}
 use Rattle.region_body.specs.declared.followed_speed.FollowedSpeed.{FollowedSpeed}
 use Rattle.region_body.proofs.SpeedTimelines.{listed-push}
 use Rattle.region_body.proofs.speeds.timelines_of.Goals.{then-is_slow+in_ok-speed_of+in_ok-push, else-is_slow}

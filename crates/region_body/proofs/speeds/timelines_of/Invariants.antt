@@ -1,6 +1,7 @@
 use Rattle.std.specs.Prelude.{All, true}
 use Rattle.std.proofs.Common.{◌≡◌, ◌<◌, ℕ}
-use Rattle.region_body.specs.Speeds.{IsSpeedOpened, is_listed, is_slow}
+use Rattle.cell_sweep.specs.Speeds.{is_slow}
+use Rattle.region_body.specs.FollowedSpeeds.{IsSpeedOpened, is_listed}
 use Rattle.region_body.proofs.speeds.timelines_of.Given as goal
 
 abbrev pub invariant-loop-p : goal.invariant-loop-p

@@ -2,10 +2,10 @@ use Rattle.std.specs.Prelude.{All, ◌==◌, if◌then◌else◌}
 use Rattle.std.specs.List.{filter, list_any, range_with_len}
 use Rattle.std.proofs.Common.{◌≡◌, ℕ, ◌<◌, [], ◌∷◌, ◌++◌, length, get_or, arith, ap, subst, sym, ◌∙◌}
 use Rattle.std.proofs.lemmas.List.Elements.{All-map}
-use Rattle.network_file.specs.Connectors.{connector_at}
+use Rattle.network_file.specs.Numbered.{connector_at}
 use Rattle.region_cut.specs.Chart.{connectors_of}
 use Rattle.region_cut.specs.Cuttings.{region_at}
-use Rattle.region_cut.specs.Joins.{touches_region}
+use Rattle.region_cut.specs.Neighbours.{touches_region}
 use Rattle.region_cut.proofs.Anys.{list_any-map}
 use Rattle.region_cut.proofs.ConnectorCells.{taken, taken-there}
 use Rattle.region_cut.proofs.ListsByRegion.{lists_are}

@@ -1,8 +1,8 @@
 use Rattle.std.proofs.Common.{◌≡◌, ℕ, ◌<◌, length}
 use Rattle.std.specs.List.{filter, range_with_len}
-use Rattle.network_file.specs.Connectors.{connector_at}
+use Rattle.network_file.specs.Numbered.{connector_at}
 use Rattle.region_cut.specs.Chart.{list_at}
-use Rattle.region_cut.specs.Joins.{touches_region}
+use Rattle.region_cut.specs.Neighbours.{touches_region}
 use Rattle.region_cut.proofs.connector_lists.connectors_by_region.Given as goal
 
 abbrev pub invariant-loop-k : goal.invariant-loop-k

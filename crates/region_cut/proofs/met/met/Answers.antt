@@ -2,8 +2,8 @@ use Rattle.std.specs.Prelude.{not, ◌==◌}
 use Rattle.std.specs.List.{list_any}
 use Rattle.std.proofs.Common.{◌≡◌, length, get_or, arith, ap, subst, sym, ◌∙◌}
 use Rattle.std.proofs.lemmas.List.{take_all}
-use Rattle.network_file.specs.Connectors.{connector_at}
-use Rattle.network_file.specs.Network.{IsNetwork}
+use Rattle.network_file.specs.Numbered.{connector_at}
+use Rattle.network_file.specs.Sound.{IsNetwork}
 use Rattle.region_cut.specs.Cuttings.{region_at}
 use Rattle.region_cut.specs.Gathered.{leaves_region}
 use Rattle.region_cut.proofs.ConnectorCells.{taken, taken-there}

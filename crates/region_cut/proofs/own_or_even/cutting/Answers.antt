@@ -1,6 +1,6 @@
 use Rattle.std.proofs.Common.{◌≡◌, ◌≢◌, length, ap, arith, subst, sym, ◌∙◌}
 use Rattle.network_file.specs.Cutting.{IsCutting}
-use Rattle.network_file.specs.Network.{IsNetwork}
+use Rattle.network_file.specs.Sound.{IsNetwork}
 use Rattle.region_cut.proofs.Anys.{not_same}
 use Rattle.region_cut.proofs.Cuttings.{cutting-alone, own-cutting}
 use Rattle.region_cut.proofs.own_or_even.cutting.Goals as goal

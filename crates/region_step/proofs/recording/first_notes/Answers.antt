@@ -3,7 +3,8 @@ use Rattle.std.specs.Prelude.{if◌then◌else◌, vec_capacity, ◌++◌}
 use Rattle.flow_model.specs.declared.row.Row.{Row}
 use Rattle.region_step.specs.Ordered.{rows_in}
 use Rattle.region_step.proofs.Ordered.{length-rows_in}
-use Rattle.region_step.specs.Recording.{is_recorded, notes_of, recorded_after}
+use Rattle.region_step.specs.Recording.{is_recorded}
+use Rattle.region_step.specs.Noting.{notes_of, recorded_after}
 use Rattle.region_step.proofs.Advancing.{noted-room}
 use Rattle.region_step.proofs.recording.first_notes.Goals as goal
 

@@ -5,7 +5,8 @@ use Rattle.flow_model.specs.State.{row_at}
 use Rattle.flow_model.specs.declared.row.Row.{Row}
 use Rattle.region_step.specs.Ordered.{rows_in}
 use Rattle.region_step.proofs.Ordered.{length-rows_in}
-use Rattle.region_step.specs.Recording.{note_of, notes_of}
+use Rattle.region_step.specs.Recording.{note_of}
+use Rattle.region_step.specs.Noting.{notes_of}
 use Rattle.region_step.specs.declared.note.Note.{Note}
 use Rattle.region_step.proofs.recording.note_rows.Goals as goal
 

@@ -1,7 +1,7 @@
 use Rattle.std.specs.Prelude.{vec_capacity}
 use Rattle.std.proofs.Common.{◌≡◌, ◌≤◌, ◌++◌, take}
 use Rattle.region_step.specs.Ordered.{rows_in}
-use Rattle.region_step.specs.Recording.{notes_of}
+use Rattle.region_step.specs.Noting.{notes_of}
 use Rattle.region_step.proofs.recording.note_rows.Given as goal
 
 abbrev pub invariant-loop-i : goal.invariant-loop-i

@@ -1,6 +1,6 @@
 use Rattle.std.proofs.Common.{inl, inr, arith, subst, sym}
 use Rattle.std.proofs.lemmas.Bool.{cases_eq}
-use Rattle.region_step.specs.Start.{IsCellInBounds}
+use Rattle.region_step.specs.Starting.{IsCellInBounds}
 use Rattle.region_step.proofs.start.are_in_bounds.Goals as goal
 
 pub loop-i-preserved : goal.loop-i-preserved

@@ -1,5 +1,5 @@
 use Rattle.std.proofs.Common.{ℕ, ◌<◌}
-use Rattle.region_step.specs.Start.{IsCellInBounds}
+use Rattle.region_step.specs.Starting.{IsCellInBounds}
 use Rattle.region_step.proofs.start.are_in_bounds.Given as goal
 
 abbrev pub invariant-loop-i : goal.invariant-loop-i

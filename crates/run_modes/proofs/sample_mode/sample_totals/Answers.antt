@@ -22,8 +22,10 @@ returns-clause-text g c =
 pub returns-clause-told : goal.returns-clause-told
 returns-clause-told g c = λ done. record {
   cut = c.in_ok-layout.layout.chart.cut;
-  own = c.in_ok-layout.ensures.own;
-  even = λ none. c.in_ok-layout.ensures.even none ∙
-      ap (λ (n : ℕ). even_cutting (length c.args.net.now.cells) (min n (length c.args.net.now.cells))) c.regions_wanted.ensures.wanted;
+  is = record {
+    own = c.in_ok-layout.ensures.own;
+    even = λ none. c.in_ok-layout.ensures.even none ∙
+        ap (λ (n : ℕ). even_cutting (length c.args.net.now.cells) (min n (length c.args.net.now.cells))) c.regions_wanted.ensures.wanted;
+  };
   told = rw c.in_ok-layout.ensures.network at (c.in_ok-regions.ensures.told refl);
 }

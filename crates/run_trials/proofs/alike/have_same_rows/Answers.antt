@@ -1,5 +1,5 @@
 use Rattle.std.proofs.Common.{ap, arith, length, subst, ◌∙◌}
-use Rattle.network_file.specs.Network.{IsNetwork}
+use Rattle.network_file.specs.Sound.{IsNetwork}
 use Rattle.region_cut.specs.Chart.{list_at}
 use Rattle.region_step.proofs.Ground.{ground}
 use Rattle.run_trials.proofs.alike.have_same_rows.Goals as goal

@@ -17,4 +17,4 @@ recut_report-requires-clause-one_each g c = λ lifetimes outlive.
     subst (AreOneEach (length c.args.net.now.cells)) (sym c.in_ok-cuts.ensures) (cuttings-one_each (length c.args.net.now.cells) c.regions_wanted-regions.result c.args.request.parts)
 
 pub returns-clause-told : goal.returns-clause-told
-returns-clause-told g c = λ done. record { told = rw (c.in_ok-cuts.ensures, c.regions_wanted-regions.ensures.wanted) at (c.recut_report.ensures.told done) }
+returns-clause-told g c = λ done. rw (c.in_ok-cuts.ensures, c.regions_wanted-regions.ensures.wanted) at (c.recut_report.ensures.told done)

@@ -6,7 +6,7 @@ use Rattle.region_cut.specs.Cuttings.{region_count}
 use Rattle.region_step.specs.Regions.{AreAt, RegionsValue}
 use Rattle.region_step.specs.Setup.{SetupValue}
 use Rattle.network_run.specs.Telling.{Telling}
-use Rattle.saved_modes.specs.Told.{HasToldPart}
+use Rattle.network_run.specs.ToldParts.{HasToldPart}
 use Rattle.saved_modes.specs.Recutting.{IsLastPart, IsPart, step_of}
 use Rattle.saved_modes.proofs.RecutParts.{part-of, start-below}
 use Rattle.saved_modes.proofs.recutting.next_part.Goals as goal

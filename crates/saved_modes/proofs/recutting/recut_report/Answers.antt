@@ -6,7 +6,7 @@ use Rattle.region_cut.specs.Chart.{list_at}
 use Rattle.snapshot.specs.Shots.{goal_of}
 use Rattle.delay_report.specs.Report.{report_of}
 use Rattle.network_run.specs.Telling.{Telling}
-use Rattle.saved_modes.specs.Told.{HasToldPart}
+use Rattle.network_run.specs.ToldParts.{HasToldPart}
 use Rattle.saved_modes.proofs.RecutParts.{come-last, goal-first, goals-rise, last-part, left-next, others-one_each, part-ended, some-part, told-next}
 use Rattle.saved_modes.proofs.recutting.recut_report.Goals as goal
 

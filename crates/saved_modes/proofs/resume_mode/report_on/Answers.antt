@@ -4,7 +4,7 @@ use Rattle.std.proofs.lemmas.Result.{IfOk-weaker}
 use Rattle.region_cut.specs.Cuttings.{region_count}
 use Rattle.region_step.specs.Regions.{AreAt}
 use Rattle.region_step.specs.Setup.{SetupValue}
-use Rattle.region_step.specs.Start.{IsTrueStart}
+use Rattle.region_step.specs.Starting.{IsTrueStart}
 use Rattle.region_slots.specs.Moments.{cut_run}
 use Rattle.delay_report.specs.FromStart.{report_from}
 use Rattle.delay_report.specs.Report.{report_of}

@@ -1,6 +1,7 @@
 use Rattle.std.specs.Prelude.{IsSomeAnd}
 use Rattle.std.proofs.Common.{◌≡◌, length, min, arith, ap, refl, subst, ◌∙◌}
-use Rattle.network_file.specs.Network.{IsNetwork, Network}
+use Rattle.network_file.specs.Network.{Network}
+use Rattle.network_file.specs.Sound.{IsNetwork}
 use Rattle.network_file.proofs.NetworkFacts.{few_cells}
 use Rattle.network_file.specs.Cutting.{IsCutting}
 use Rattle.region_cut.specs.Chart.{ChartLists}
@@ -28,8 +29,8 @@ save-requires-clause-few g c =
     let used = ap (λ (chart : ChartLists). length chart.cut) (c.layout.ensures.chart ∙ ap (λ (s : SetupValue). s.chart) c.in_ok-setup.ensures.setup) in
     omega (arith, used, c.net-own.ensures.one_each ∙ ap (λ (n : Network). length n.cells) c.in_ok-layout.ensures.network, few_cells c.args.net.now (subst IsNetwork c.net.view_is c.net.invariant))
 
-pub returns-clause-saved : goal.returns-clause-saved
-returns-clause-saved g c =
+pub returns-clause-told : goal.returns-clause-told
+returns-clause-told g c =
     let net : Network = c.args.net.now in
     let chart : ChartLists = c.in_ok-layout.layout.chart in
     let sound = subst IsNetwork c.net.view_is c.net.invariant in
@@ -50,26 +51,22 @@ returns-clause-saved g c =
     let begins = (subst (λ cut. (n : Network) (start : StartLists) → IsTrueShot c.args.input.now n cut start c.in_ok-room.room → IsSomeAnd (content_of c.in_ok-text.text.items) (λ content. HasTrueStart content n cut)) used
     c.in_ok-text.ensures.true_start) net (zero_start net chart.cut) shot in
     let stand = subst (λ (s : SetupValue). AreStepsBetween s.net s.chart.cut (min c.from-until.result s.net.steps) (near_end s.net c.from-until.result) c.in_ok-room.room.steps) is c.in_ok-room.ensures.near in
-    record {
-      cut = chart.cut;
-      cutting = c.in_ok-layout.ensures.cutting;
-      steps = c.in_ok-room.room.steps;
-      stand = subst (λ until. AreStepsBetween net chart.cut (min until net.steps) (near_end net until) c.in_ok-room.room.steps) c.from-until.ensures stand;
-      saved = (rw used at c.in_ok-text.ensures.text) ∙ ap saved_text (shown-run net chart.cut c.in_ok-room.room sound one_each snapshot c.args.input.now);
-      begins = begins;
-      resumed = begins-resumed_as net chart.cut c.in_ok-text.text.items sound begins c.in_ok-text.ensures.short;
-    }
-
-pub returns-clause-told : goal.returns-clause-told
-returns-clause-told g c = λ done.
     let held : Telling = g.W.Observer.told_held c.args.observer.now in
     let freed : Telling = g.W.Observer.told_freed c.args.observer.now in
-    let net : Network = c.args.net.now in
-    let chart : ChartLists = c.in_ok-layout.layout.chart in
-    let is = setup-is c.in_ok-setup.setup net c.in_ok-layout.layout.net chart c.in_ok-setup.ensures.setup c.in_ok-layout.ensures.network in
-    record {
-      cut = chart.cut;
-      cutting = c.in_ok-layout.ensures.cutting;
-      told = subst (λ until. HasTold held freed (zero_run net chart.cut 0) (min until net.steps)) c.from-until.ensures
-          (subst (λ (s : SetupValue). HasTold held freed (cut_run s) (min c.from-until.result s.net.steps)) is (c.in_ok-room.ensures.told refl));
-    }
+    let told : HasTold held freed (zero_run net chart.cut 0) (near_end net c.args.request.until) =
+    subst (λ until. HasTold held freed (zero_run net chart.cut 0) (near_end net until)) c.from-until.ensures
+    (subst (λ (s : SetupValue). HasTold held freed (cut_run s) (near_end s.net c.from-until.result)) is (c.in_ok-room.ensures.told refl)) in (
+      record {
+        cut = chart.cut;
+        cutting = c.in_ok-layout.ensures.cutting;
+        steps = c.in_ok-room.room.steps;
+        stand = subst (λ until. AreStepsBetween net chart.cut (min until net.steps) (near_end net until) c.in_ok-room.room.steps) c.from-until.ensures stand;
+        saved = (rw used at c.in_ok-text.ensures.text) ∙ ap saved_text (shown-run net chart.cut c.in_ok-room.room sound one_each snapshot c.args.input.now);
+        begins = begins;
+        resumed = begins-resumed_as net chart.cut c.in_ok-text.text.items sound begins c.in_ok-text.ensures.short;
+      },
+      told,
+    )
+
+pub returns-clause-saved : goal.returns-clause-saved
+returns-clause-saved g c = let told = returns-clause-told g c in told.0

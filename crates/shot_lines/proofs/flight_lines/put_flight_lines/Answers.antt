@@ -1,6 +1,6 @@
 use Rattle.std.proofs.Common.{◌≡◌, ◌++◌, true, false, length, rules, append_assoc, arith, ap, refl, sym, ◌∙◌}
 use Rattle.std.proofs.Transfers.{starts_with_of_append, starts_with_trans}
-use Rattle.network_file.specs.Connectors.{connector_at}
+use Rattle.network_file.specs.Numbered.{connector_at}
 use Rattle.region_cut.specs.Joins.{crosses}
 use Rattle.shot_lines.proofs.FlightLines.{flights_before, flights_before-all, flights_before-crosses, flights_before-none, flights_before-stays}
 use Rattle.shot_lines.proofs.flight_lines.put_flight_lines.Goals.{then-crosses+in_ok-put_flight_line, else-crosses}

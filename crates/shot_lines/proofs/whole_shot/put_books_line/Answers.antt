@@ -1,7 +1,8 @@
 use Rattle.std.specs.Prelude.{codes}
 use Rattle.std.proofs.Common.{◌≡◌, ℕ, List, ◌++◌, append_assoc, rules}
 use Rattle.std.proofs.Transfers.{starts_with_of_append, starts_with_trans}
-use Rattle.line_fields.specs.Fields.{count_field, signed_field}
+use Rattle.line_fields.specs.Fields.{count_field}
+use Rattle.line_fields.specs.SignedFields.{signed_field}
 use Rattle.shot_lines.specs.ShotText.{books_line}
 use Rattle.shot_lines.proofs.whole_shot.put_books_line.Goals as goal
 

@@ -1,5 +1,5 @@
 use Rattle.std.proofs.Common.{sym, ap, ◌∙◌}
-use Rattle.signal_plan.specs.Green.{green_at, is_green_by}
+use Rattle.step_plan.specs.Green.{green_at, is_green_by}
 use Rattle.timelines.specs.Cells.{green_by}
 use Rattle.timelines.proofs.cell_timeline.signal_by.Goals as goal
 

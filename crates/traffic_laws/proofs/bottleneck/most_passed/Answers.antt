@@ -1,6 +1,6 @@
 use Rattle.std.proofs.Common.{◌≡◌, ◌≤◌, arith, subst, sym, ap, ◌∙◌}
 use Rattle.network_file.specs.Limits.{most_capacity}
-use Rattle.network_file.specs.Network.{IsNetwork}
+use Rattle.network_file.specs.Sound.{IsNetwork}
 use Rattle.flow_model.proofs.CellLimits.{capacity_at-le}
 use Rattle.traffic_laws.specs.Bottleneck.{IsRateTimesGreenSteps, IsRateTimesSteps, PassesAllWhereFed, PassesAtMost, green_capacity, green_capacity_over}
 use Rattle.traffic_laws.proofs.Bottlenecks.{green_capacity-le, green_capacity_over-green_rate, green_capacity_over-more, green_capacity_over-none, green_capacity_over-rate, passes-all, passes-at-most}

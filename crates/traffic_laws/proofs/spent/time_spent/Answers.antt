@@ -1,5 +1,5 @@
 use Rattle.std.proofs.Common.{◌≡◌, length, arith, subst, sym, ap, ◌∙◌}
-use Rattle.network_file.specs.Network.{IsNetwork}
+use Rattle.network_file.specs.Sound.{IsNetwork}
 use Rattle.traffic_laws.specs.Area.{area_under}
 use Rattle.traffic_laws.proofs.Areas.{area-in-cell, area-inside, area_under-more, part, spent-parts}
 use Rattle.traffic_laws.proofs.spent.time_spent.Goals as goal

@@ -4,11 +4,12 @@ use Rattle.network_file.specs.Network.{Network}
 use Rattle.region_cut.specs.Cuttings.{region_count}
 use Rattle.region_step.specs.Regions.{AreAtLast, HaveCome}
 use Rattle.region_step.specs.Setup.{SetupValue}
-use Rattle.region_step.specs.Start.{IsTrueStart}
+use Rattle.region_step.specs.Starting.{IsTrueStart}
 use Rattle.region_step.proofs.Steps.{zero_start-at}
 use Rattle.border_rows.specs.declared.view.Terms.{Terms}
 use Rattle.border_rows.specs.declared.view.View.{View}
-use Rattle.region_slots.specs.Moments.{AreTold, CutRun, cut_run}
+use Rattle.region_slots.specs.Moments.{AreTold, cut_run}
+use Rattle.region_slots.specs.CutRun.{CutRun}
 use Rattle.network_run.specs.Run.{HasLogged}
 use Rattle.network_run.specs.Telling.{HasTold, Telling}
 use Rattle.network_run.proofs.Ending.{all-at}

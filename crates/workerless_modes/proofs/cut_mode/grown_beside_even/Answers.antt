@@ -12,7 +12,6 @@ returns c =
     let shows : ShowsGrown net c.min-k.result c.in_ok-text.text.items = record {
       list = list;
       grown = c.in_ok-list.ensures.grown;
-      no_more = c.in_ok-list.ensures.no_more;
       text_is = c.in_ok-text.ensures ∙ ap (cutting_text net c.min-k.result) c.deref.ensures.value;
     } in
     subst (λ n. ShowsGrown net n c.in_ok-text.text.items) k shows

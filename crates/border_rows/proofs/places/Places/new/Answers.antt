@@ -1,5 +1,5 @@
 use Rattle.std.proofs.Common.{◌≡◌, ℕ, List, arith, rules, ap, length, subst, sym, ◌∙◌}
-use Rattle.network_file.specs.Network.{IsNetwork}
+use Rattle.network_file.specs.Sound.{IsNetwork}
 use Rattle.border_rows.specs.Places.{base_of, widths_of, words_of}
 use Rattle.border_rows.specs.Spans.{spans_of, widths_in}
 use Rattle.border_rows.proofs.ChartWidths.{length-widths_of, next_words}

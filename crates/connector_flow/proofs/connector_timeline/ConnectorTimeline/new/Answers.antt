@@ -1,6 +1,6 @@
 use Rattle.std.proofs.Common.{◌≡◌, ℕ, subst, ap, ◌∙◌, arith}
-use Rattle.signal_plan.specs.Turning.{shares_at}
-use Rattle.network_file.specs.Network.{IsNetwork}
+use Rattle.step_plan.specs.Turning.{shares_at}
+use Rattle.network_file.specs.Sound.{IsNetwork}
 use Rattle.network_file.specs.declared.connector.Connector.TheVariants.{Link, Merge, Diverge}
 use Rattle.timelines.specs.Timelines.{value_at}
 use Rattle.connector_flow.proofs.Made.{diverge-cells, made-diverge, made-link, made-merge, made-read, merge-cells, read-as}

@@ -2,8 +2,7 @@ use Rattle.std.specs.Prelude.{not}
 use Rattle.std.proofs.Common.{◌≡◌, length, arith, sym, ap, ◌∙◌}
 use Rattle.network_file.specs.Cells.{is_exit_at, is_gate_at}
 use Rattle.flow_model.specs.State.{occupancy}
-use Rattle.flow_ledger.specs.Books.{entered_of, inside_of, left_of, sum_where}
-use Rattle.flow_ledger.specs.Flight.{come_of}
+use Rattle.flow_ledger.specs.Books.{entered_of, inside_of, left_of, sum_where, come_of}
 use Rattle.flow_ledger.proofs.CellSums.{sum_where-more}
 use Rattle.flow_ledger.proofs.cell_sums.CellSums.of.Goals as goal
 

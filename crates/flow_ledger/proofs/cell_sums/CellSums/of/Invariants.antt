@@ -2,8 +2,7 @@ use Rattle.std.specs.Prelude.{not}
 use Rattle.std.proofs.Common.{◌≡◌, ◌*◌, ◌≤◌, ◌^◌}
 use Rattle.network_file.specs.Cells.{is_exit_at, is_gate_at}
 use Rattle.flow_model.specs.State.{occupancy}
-use Rattle.flow_ledger.specs.Books.{sum_where}
-use Rattle.flow_ledger.specs.Flight.{come_of}
+use Rattle.flow_ledger.specs.Books.{sum_where, come_of}
 use Rattle.flow_ledger.proofs.cell_sums.CellSums.of.Given as goal
 
 abbrev pub invariant-loop-i : goal.invariant-loop-i

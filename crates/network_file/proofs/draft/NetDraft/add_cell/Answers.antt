@@ -1,5 +1,5 @@
 use Rattle.std.proofs.Common.{rules, ◌≡◌, ◌++◌, ◌∷◌, []}
-use Rattle.signal_plan.specs.Records.{with_cell}
+use Rattle.step_plan.specs.Records.{with_cell}
 use Rattle.network_file.proofs.SoundLemmas.{HasSoundParts-add_cell, regions-add_cell}
 use Rattle.network_file.proofs.draft.NetDraft.add_cell.Goals as goal
 

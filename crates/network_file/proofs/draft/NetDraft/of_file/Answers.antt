@@ -1,8 +1,8 @@
 use Rattle.std.proofs.Common.{◌≡◌, ℕ, [], arith, refl, rules}
 use Rattle.std.specs.List.{IsDistinct}
 use Rattle.std.proofs.lemmas.List.Elements.{All-nil}
-use Rattle.network_file.specs.Draft.{IsSoundDraft, empty_draft}
-use Rattle.network_file.specs.Formats.{IsFormat}
+use Rattle.network_file.specs.Draft.{empty_draft}
+use Rattle.network_file.specs.Sound.{IsSoundDraft, IsFormat}
 use Rattle.network_file.proofs.draft.NetDraft.of_file.Goals as goal
 
 sound-empty_draft : (format : ℕ) → IsFormat format → IsSoundDraft (empty_draft format)
@@ -21,15 +21,17 @@ sound-empty_draft format known = record {
     one_in = λ i. omega arith;
     planned = record {
       one_each = omega arith;
-      planned = All-nil _;
-      few_limits = omega arith;
-      few_demands = omega arith;
-      few_turns = omega arith;
-      few_speeds = omega arith;
-      no_turns = λ first. refl;
-      no_speeds = λ older. refl;
+      planned = λ i there. absurd (omega arith);
+      few = record {
+        limits = omega arith;
+        demands = omega arith;
+        turns = omega arith;
+        speeds = omega arith;
+        no_turns = λ first. refl;
+        no_speeds = λ older. refl;
+      };
     };
-    turns_diverge = All-nil _;
+    turns_diverge = λ i there. absurd (omega arith);
   };
   regions = All-nil _;
   no_regions = λ first. refl;

@@ -6,7 +6,7 @@ use Rattle.network_run.specs.Crews.{CrewValue, HasLeft}
 use Rattle.network_run.specs.Enlisted.{AreEnlisted, IsEnlisted}
 use Rattle.network_run.proofs.Crewing.{All-fewer, All-last}
 use Rattle.region_slots.specs.FieldView.{PassValue}
-use Rattle.network_run.specs.Telling.{AreFrom}
+use Rattle.network_run.specs.Run.{AreFrom}
 use Rattle.network_run.proofs.Told.{among-more, from-more}
 use Rattle.network_run.proofs.crew.Crew.dismiss.Goals as goal
 

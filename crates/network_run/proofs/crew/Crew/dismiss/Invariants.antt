@@ -5,7 +5,7 @@ use Rattle.region_slots.specs.FieldView.{IsPassOf}
 use Rattle.worker_claim.specs.declared.member.Member.{Member}
 use Rattle.network_run.specs.Crews.{IsReached}
 use Rattle.network_run.specs.Enlisted.{AreEnlisted}
-use Rattle.network_run.specs.Telling.{AreFrom}
+use Rattle.network_run.specs.Run.{AreFrom}
 use Rattle.network_run.proofs.crew.Crew.dismiss.Given as goal
 
 -- those who are left have the other seats

@@ -1,4 +1,4 @@
-use Rattle.std.specs.Prelude.{false, slice_index, true}
+use Rattle.std.specs.Prelude.{slice_index}
 use Rattle.std.proofs.Common.{◌≡◌, ◌≢◌, ◌<◌, ◌≤◌, ℕ, List, refl, sym, ap, subst, ◌∙◌, arith}
 use Rattle.region_cut.specs.Cuttings.{region_count}
 use Rattle.region_step.specs.Setup.{SetupValue}
@@ -6,8 +6,7 @@ use Rattle.region_slots.specs.Shooting.{HasShot}
 use Rattle.region_slots.specs.declared.shot.Shot.{Shot}
 use Rattle.region_slots.specs.declared.shot.Shot.TheVariants.{Busy, Taken}
 use Rattle.region_slots.specs.Moments.{AreTold, cut_run}
-use Rattle.network_run.specs.Run.{RunValue}
-use Rattle.network_run.specs.Telling.{AreFrom}
+use Rattle.network_run.specs.Run.{RunValue, AreFrom}
 use Rattle.network_run.proofs.Told.{told-taken}
 use Rattle.network_run.proofs.run.Run.show_on_the_way.Goals as goal
 
@@ -85,7 +84,7 @@ returns-in_default-clause-told_before g c =
     let shot = c.drive_watched-shot.ensures.watched.shot in
     let taken : HasShot c.self.inside.field.terms c.enlist.new.pass.knows c.drive_watched-shot.new.watcher.knows c.drive_watched-shot.new.room = shot.taken (not-busy c.drive_watched-shot.result c.in_default.not-Busy) in (
       c.enlist.new.pass.knows.seen,
-      subst (λ (run : RunValue). g.W.Observer.told_watched c.args.observer.now (cut_run run.terms.setup.now) c.enlist.new.pass.knows.seen false) c.self.view_is c.drive_watched-shot.ensures.told_shot.0,
+      subst (λ (run : RunValue). g.W.Observer.told_watching c.args.observer.now (cut_run run.terms.setup.now) c.enlist.new.pass.knows.seen) c.self.view_is c.drive_watched-shot.ensures.told_shot.0,
       (λ r there.
           let here : r < region_count c.self.inside.field.terms.setup.now.chart.cut = omega (arith, there, ap (λ (run : RunValue). region_count run.terms.setup.now.chart.cut) c.self.view_is) in (
             omega (arith, ap (λ l. slice_index l r) c.enlist.ensures.knows.0, ap (λ (run : RunValue). slice_index run.knows.seen r) c.self.view_is),
@@ -97,8 +96,9 @@ pub returns-in_default-clause-told_after : goal.returns-in_default-clause-told_a
 returns-in_default-clause-told_after g c =
     let shot = c.drive_watched-shot.ensures.watched.shot in
     let taken : HasShot c.self.inside.field.terms c.enlist.new.pass.knows c.drive_watched-shot.new.watcher.knows c.drive_watched-shot.new.room = shot.taken (not-busy c.drive_watched-shot.result c.in_default.not-Busy) in
-    subst (λ (run : RunValue). g.W.Observer.told_watched c.args.observer.now (cut_run run.terms.setup.now) c.drive_watched-shot.new.room.steps true) c.self.view_is
-    (subst (λ (seen : List ℕ). g.W.Observer.told_watched c.args.observer.now (cut_run c.self.inside.field.terms.setup.now) seen true) taken.seen c.drive_watched-shot.ensures.told_shot.1)
+    subst (λ (run : RunValue). g.W.Observer.told_watched c.args.observer.now (cut_run run.terms.setup.now) c.drive_watched-shot.new.room.steps Taken) c.self.view_is
+    (subst (λ (seen : List ℕ). g.W.Observer.told_watched c.args.observer.now (cut_run c.self.inside.field.terms.setup.now) seen Taken) taken.seen
+    (subst (g.W.Observer.told_watched c.args.observer.now (cut_run c.self.inside.field.terms.setup.now) c.drive_watched-shot.new.watcher.knows.seen) (not-busy c.drive_watched-shot.result c.in_default.not-Busy) c.drive_watched-shot.ensures.told_shot.1))
 
 pub returns-in-Busy-clause-told_before : goal.returns-in-Busy-clause-told_before
 returns-in-Busy-clause-told_before g c =
@@ -108,7 +108,7 @@ returns-in-Busy-clause-told_before g c =
     let last = c.watch.ensures.shot in
     let taken : HasShot c.self.inside.field.terms c.finish.new.pass.knows c.watch.new.pass.knows c.watch.new.room = last.taken (last.never_busy seats) in (
       c.finish.new.pass.knows.seen,
-      subst (λ (run : RunValue). g.W.Observer.told_watched c.args.observer.now (cut_run run.terms.setup.now) c.finish.new.pass.knows.seen false) c.self.view_is c.watch.ensures.told.0,
+      subst (λ (run : RunValue). g.W.Observer.told_watching c.args.observer.now (cut_run run.terms.setup.now) c.finish.new.pass.knows.seen) c.self.view_is c.watch.ensures.told_before,
       (λ r there.
           let here : r < region_count c.self.inside.field.terms.setup.now.chart.cut = omega (arith, there, ap (λ (run : RunValue). region_count run.terms.setup.now.chart.cut) c.self.view_is) in (
             omega (arith, ap (λ l. slice_index l r) c.enlist.ensures.knows.0, ap (λ (run : RunValue). slice_index run.knows.seen r) c.self.view_is, shot.unmoved.seen.later r, c.dismiss.ensures.later r, c.finish.ensures.keeps.seen.later r),
@@ -123,5 +123,6 @@ returns-in-Busy-clause-told_after g c =
     omega (arith, c.finish.ensures.keeps.share, c.dismiss.ensures.seats, c.drive_watched-shot.ensures.many, c.enlist.ensures.many, shot.unmoved.share, c.enlist.ensures.seat, c.self.invariant.2, c.self.invariant.1) in
     let last = c.watch.ensures.shot in
     let taken : HasShot c.self.inside.field.terms c.finish.new.pass.knows c.watch.new.pass.knows c.watch.new.room = last.taken (last.never_busy seats) in
-    subst (λ (run : RunValue). g.W.Observer.told_watched c.args.observer.now (cut_run run.terms.setup.now) c.watch.new.room.steps true) c.self.view_is
-    (subst (λ (seen : List ℕ). g.W.Observer.told_watched c.args.observer.now (cut_run c.self.inside.field.terms.setup.now) seen true) taken.seen c.watch.ensures.told.1)
+    subst (λ (run : RunValue). g.W.Observer.told_watched c.args.observer.now (cut_run run.terms.setup.now) c.watch.new.room.steps Taken) c.self.view_is
+    (subst (λ (seen : List ℕ). g.W.Observer.told_watched c.args.observer.now (cut_run c.self.inside.field.terms.setup.now) seen Taken) taken.seen
+    (subst (g.W.Observer.told_watched c.args.observer.now (cut_run c.self.inside.field.terms.setup.now) c.watch.new.pass.knows.seen) (last.never_busy seats) c.watch.ensures.told_after))

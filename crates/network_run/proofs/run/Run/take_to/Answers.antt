@@ -1,8 +1,7 @@
 use Rattle.std.proofs.Common.{◌≡◌, ◌≤◌, ℕ, List, ap, subst, ◌∙◌, arith}
 use Rattle.border_rows.specs.declared.view.PublishedStep.{PublishedStep}
 use Rattle.region_slots.specs.Moments.{AreTold, cut_run}
-use Rattle.network_run.specs.Run.{RunValue}
-use Rattle.network_run.specs.Telling.{AreFrom}
+use Rattle.network_run.specs.Run.{RunValue, AreFrom}
 use Rattle.network_run.proofs.Told.{told-taken}
 use Rattle.network_run.proofs.run.Run.take_to.Goals as goal
 

@@ -1,7 +1,7 @@
 use Rattle.std.specs.Prelude.{map, slice_index}
 use Rattle.std.proofs.Common.{◌≡◌, ℕ, ◌<◌, List, length, ap, arith, subst, sym, ◌∙◌}
 use Rattle.std.proofs.lemmas.List.{with_items_is}
-use Rattle.flow_model.specs.State.{rows_after}
+use Rattle.flow_model.specs.Stepping.{rows_after}
 use Rattle.region_step.specs.Advance.{known}
 use Rattle.plain_region.specs.Carrying.{CanChangeAt, IsChangeOf, change_at, rows_changed}
 use Rattle.region_body.proofs.Whole.{length-rows_after}

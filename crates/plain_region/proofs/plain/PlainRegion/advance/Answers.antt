@@ -1,12 +1,13 @@
 use Rattle.std.specs.Prelude.{Option, None, map, replicate, if◌then◌else◌}
 use Rattle.std.proofs.Common.{◌≡◌, ℕ, ◌+◌, List, [], ◌++◌, length, ap, arith, subst, sym, ◌∙◌}
 use Rattle.std.proofs.lemmas.List.{length-replicate, with_items_is}
-use Rattle.network_file.specs.Network.{IsNetwork}
+use Rattle.network_file.specs.Sound.{IsNetwork}
 use Rattle.flow_model.specs.declared.row.Row.{Row}
 use Rattle.region_cut.specs.Chart.{list_at}
 use Rattle.region_step.specs.Advance.{HasRowsInBounds, next_rows_of}
 use Rattle.region_step.specs.Opened.{halo_cells}
-use Rattle.region_step.specs.Recording.{is_recorded, notes_of}
+use Rattle.region_step.specs.Recording.{is_recorded}
+use Rattle.region_step.specs.Noting.{notes_of}
 use Rattle.region_step.specs.Region.{RegionState}
 use Rattle.region_step.proofs.Advancing.{advanced-built, advanced-in_bounds, length-next_rows_of}
 use Rattle.plain_region.proofs.Advancing.{advanced-inside, next_rows-read, scene-read}

@@ -1,10 +1,11 @@
 use Rattle.std.specs.Prelude.{map, replicate, slice_index, None, if◌then◌else◌}
 use Rattle.std.proofs.Common.{◌≡◌, ◌≤◌, ℕ, List, [], length, get_or, arith, ap, refl, subst, sym, ◌∙◌}
 use Rattle.std.proofs.lemmas.List.{get_or_default, length-map, length-replicate}
-use Rattle.network_file.specs.Network.{IsNetwork}
+use Rattle.network_file.specs.Sound.{IsNetwork}
 use Rattle.flow_model.specs.State.{row_at}
 use Rattle.region_cut.specs.Chart.{list_at}
-use Rattle.region_step.specs.Recording.{is_recorded, notes_of}
+use Rattle.region_step.specs.Recording.{is_recorded}
+use Rattle.region_step.specs.Noting.{notes_of}
 use Rattle.region_step.proofs.Ground.{cells-within}
 use Rattle.region_step.proofs.GridStates.{grid_state-put, grid_state-start}
 use Rattle.region_step.specs.Advance.{HasRowsInBounds}

@@ -1,6 +1,6 @@
 use Rattle.std.specs.Prelude.{map}
 use Rattle.std.proofs.Common.{ap, refl, subst, ◌∙◌}
-use Rattle.network_file.specs.Network.{IsNetwork}
+use Rattle.network_file.specs.Sound.{IsNetwork}
 use Rattle.region_cut.specs.Chart.{list_at}
 use Rattle.region_step.proofs.Ground.{ground-read}
 use Rattle.plain_region.proofs.wiring.Wiring.new.Goals as goal

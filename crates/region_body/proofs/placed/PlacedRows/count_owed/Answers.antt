@@ -3,8 +3,8 @@ use Rattle.std.specs.Vec.{with_items}
 use Rattle.std.proofs.Common.{◌≡◌, ap, ◌∙◌}
 use Rattle.std.proofs.lemmas.List.{with_items_is}
 use Rattle.region_body.specs.Placed.{PlacedCells}
-use Rattle.region_body.specs.Waiting.{waited}
-use Rattle.region_body.proofs.Stays.{waited-none}
+use Rattle.cell_sweep.specs.Waiting.{waited}
+use Rattle.cell_sweep.proofs.Waits.{waited-none}
 use Rattle.region_body.proofs.placed.PlacedRows.count_owed.Goals.{After-wait_all}
 use Rattle.region_body.proofs.placed.PlacedRows.count_owed.Goals as goal
 

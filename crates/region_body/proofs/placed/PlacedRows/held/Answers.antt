@@ -2,11 +2,11 @@ use Rattle.std.specs.Prelude.{map}
 use Rattle.std.proofs.Common.{◌<◌, ℕ, List, length, sym, ap, ◌∙◌, arith}
 use Rattle.std.proofs.lemmas.List.{get_or_read}
 use Rattle.flow_model.specs.State.{row_at}
-use Rattle.region_body.specs.CellStates.{no_state}
-use Rattle.region_body.specs.declared.cell_state.CellState.{CellState}
+use Rattle.cell_sweep.specs.CellStates.{no_state}
+use Rattle.cell_sweep.specs.declared.cell_state.CellState.{CellState}
 use Rattle.region_body.specs.Rows.{rows_of}
-use Rattle.region_body.specs.Waiting.{waited}
-use Rattle.region_body.proofs.Stays.{length-waited, n-waited}
+use Rattle.cell_sweep.specs.Waiting.{waited}
+use Rattle.cell_sweep.proofs.Waits.{length-waited, n-waited}
 use Rattle.region_body.proofs.Whole.{row_at-rows_of}
 use Rattle.region_body.proofs.placed.PlacedRows.held.Goals as goal
 

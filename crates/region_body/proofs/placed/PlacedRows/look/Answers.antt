@@ -3,8 +3,9 @@ use Rattle.std.proofs.Common.{◌≡◌, ℕ, true, length, ap, subst, sym, ◌�
 use Rattle.std.proofs.lemmas.Bool.Decides.{nat_tests}
 use Rattle.std.proofs.lemmas.List.{with_items_is}
 use Rattle.region_body.specs.Pausing.{AreIdle}
-use Rattle.region_body.specs.Waiting.{waited}
-use Rattle.region_body.proofs.Stays.{sound-settled, unowed, waited-none}
+use Rattle.cell_sweep.specs.Waiting.{waited}
+use Rattle.cell_sweep.proofs.Waits.{unowed, waited-none}
+use Rattle.region_body.proofs.Stays.{sound-settled}
 use Rattle.region_body.proofs.placed.PlacedRows.look.Goals.{After-deref-4}
 use Rattle.region_body.proofs.placed.PlacedRows.look.Goals as goal
 

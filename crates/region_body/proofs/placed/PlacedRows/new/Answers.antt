@@ -1,13 +1,13 @@
 use Rattle.std.specs.Prelude.{All, None, slice_index}
 use Rattle.std.proofs.Common.{◌≡◌, ℕ, length, sym, ap, subst, ◌∙◌, arith}
 use Rattle.std.proofs.lemmas.List.{length-map, length-replicate, with_items_is}
-use Rattle.network_file.specs.Network.{IsNetwork}
+use Rattle.network_file.specs.Sound.{IsNetwork}
 use Rattle.flow_model.specs.Limits.{room_at}
-use Rattle.region_body.specs.CellStates.{cell_state_at}
+use Rattle.cell_sweep.specs.CellStates.{cell_state_at}
 use Rattle.connector_flow.specs.Space.{IsSpaceOf}
 use Rattle.region_body.specs.FollowedLinks.{IsLinkThere}
 use Rattle.region_body.proofs.Firsts.{AreOpened, opened-cell, opened-rows, opened-settled}
-use Rattle.region_body.proofs.Stays.{waited-none}
+use Rattle.cell_sweep.proofs.Waits.{waited-none}
 use Rattle.region_body.proofs.placed.PlacedRows.new.Goals as goal
 
 pub invariant_of-result : goal.invariant_of-result

@@ -1,7 +1,7 @@
 use Rattle.std.proofs.Common.{◌≡◌, ap, ◌∙◌, length, arith}
 use Rattle.std.proofs.lemmas.List.{with_items_is}
-use Rattle.region_body.specs.CellStates.{cell_state_at}
-use Rattle.region_body.proofs.Stays.{unowed}
+use Rattle.cell_sweep.specs.CellStates.{cell_state_at}
+use Rattle.cell_sweep.proofs.Waits.{unowed}
 use Rattle.region_body.proofs.placed.PlacedRows.note_first.Goals as goal
 
 pub returns-then-self-eq0-clause-before : goal.returns-then-self-eq0-clause-before

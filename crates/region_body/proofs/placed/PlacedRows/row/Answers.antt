@@ -2,12 +2,12 @@ use Rattle.std.specs.Prelude.{false, map}
 use Rattle.std.proofs.Common.{◌≡◌, ◌<◌, List, length, sym, ap, ◌∙◌, arith}
 use Rattle.std.proofs.lemmas.List.{get_or_read}
 use Rattle.flow_model.specs.State.{row_at}
-use Rattle.region_body.specs.CellStates.{no_state, cell_state_at}
-use Rattle.region_body.specs.declared.cell_state.CellState.{CellState}
+use Rattle.cell_sweep.specs.CellStates.{no_state, cell_state_at}
+use Rattle.cell_sweep.specs.declared.cell_state.CellState.{CellState}
 use Rattle.region_body.specs.Rows.{constants_at, row_of, rows_of}
-use Rattle.region_body.specs.Waiting.{waited}
+use Rattle.cell_sweep.specs.Waiting.{waited}
 use Rattle.region_body.specs.declared.cell_constants.CellConstants.{CellConstants}
-use Rattle.region_body.proofs.Stays.{length-waited, cell_state_at-waited}
+use Rattle.cell_sweep.proofs.Waits.{length-waited, cell_state_at-waited}
 use Rattle.region_body.proofs.Whole.{row_at-rows_of}
 use Rattle.region_body.proofs.placed.PlacedRows.row.Goals.{After-state-1}
 use Rattle.region_body.proofs.placed.PlacedRows.row.Goals as goal

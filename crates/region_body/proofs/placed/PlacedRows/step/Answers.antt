@@ -1,9 +1,9 @@
 use Rattle.std.specs.Prelude.{map}
 use Rattle.std.proofs.Common.{◌≡◌, ◌+◌, length, sym, ap, subst, ◌∙◌}
-use Rattle.network_file.specs.Network.{IsNetwork}
+use Rattle.network_file.specs.Sound.{IsNetwork}
 use Rattle.region_body.specs.Placed.{ArePlaced, CanAdvance, PlacedCells}
 use Rattle.region_body.specs.Rows.{rows_of}
-use Rattle.region_body.specs.Waiting.{waited}
+use Rattle.cell_sweep.specs.Waiting.{waited}
 use Rattle.region_body.proofs.Parting.{refs-there}
 use Rattle.region_body.proofs.Pausing.{advance-awake, awake, placed-paused, placed-waited, states-awake, rows-awake, rows-waited, sums-fit, waiting}
 use Rattle.region_body.proofs.placed.PlacedRows.step.Goals.{After-look-arg-1, After-wait}

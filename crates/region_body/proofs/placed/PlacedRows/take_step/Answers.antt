@@ -2,20 +2,20 @@ use Rattle.std.specs.Prelude.{map, slice_index, sum_by}
 use Rattle.std.proofs.Common.{◌≡◌, ◌<◌, ℕ, List, length, sym, ap, subst, ◌∙◌, arith}
 use Rattle.std.specs.Vec.{with_items}
 use Rattle.std.proofs.lemmas.List.{with_items_is}
-use Rattle.signal_plan.specs.Speeds.{IsSpeed}
-use Rattle.network_file.specs.Network.{IsNetwork}
+use Rattle.step_plan.specs.SpeedBounds.{IsSpeed}
+use Rattle.network_file.specs.Sound.{IsNetwork}
 use Rattle.flow_model.proofs.CellLimits.{speed_at-sound}
-use Rattle.region_body.specs.CellStates.{cell_state_at, swept, with_entered}
-use Rattle.region_body.specs.declared.cell_state.CellState.{CellState}
+use Rattle.cell_sweep.specs.CellStates.{cell_state_at, swept, with_entered}
+use Rattle.cell_sweep.specs.declared.cell_state.CellState.{CellState}
 use Rattle.region_body.specs.Carrying.{AreConnectorsFollowed, passed}
 use Rattle.region_body.specs.Gates.{demand_into}
 use Rattle.region_body.specs.Placed.{CanAdvance, PlacedCells}
-use Rattle.region_body.specs.Waiting.{waited}
+use Rattle.cell_sweep.specs.Waiting.{waited}
 use Rattle.region_body.specs.declared.gate.GatePlace.{GatePlace}
 use Rattle.region_body.specs.declared.followed_connector.FollowedConnector.{FollowedConnector}
-use Rattle.region_body.proofs.Stays.{waited-unowed}
+use Rattle.cell_sweep.proofs.Waits.{waited-unowed}
 use Rattle.region_body.proofs.Stepped.{IsSwept, can-carry-each, can-enter-each, can-pass-each, carried_to, ins_of, outs_of, steps-of}
-use Rattle.region_body.specs.Speeds.{at_speeds}
+use Rattle.cell_sweep.specs.Speeds.{at_speeds}
 use Rattle.region_body.proofs.Renewed.{IsFresh, Renewal, fresh-of, sending, sound-sending}
 use Rattle.region_body.proofs.Whole.{AreSteps, can-sweep, gates-there, placed-after, placed-read, rows-after, rows-read, settled-after, sound-fresh}
 use Rattle.region_body.specs.declared.placed.PlacedRows.TheInside.{Inside}
@@ -74,7 +74,7 @@ renewed c = record {
   until = c.follow_speeds-self-inside.result;
 }
 
-fresh : (c : After-follow_connectors-self-inside) (can : Can c) → IsFresh c.args.net.now c.args.cells.now can.connectors c.args.t (opened c.self.inside) (renewed c)
+fresh : (c : After-follow_connectors-self-inside) (can : Can c) → IsFresh c.args.net.now c.args.cells.now can.halo can.connectors c.args.t (opened c.self.inside) (renewed c)
 fresh c can = fresh-of c.args.net.now c.args.cells.now can.halo can.connectors c.args.t (opened c.self.inside) (renewed c) (sound c) can.laid (record {
   long = c.refresh.auto.states ∙ ap length c.deref_mut-2.ensures.value;
   there = rw c.deref_mut-2.ensures.value at c.refresh.ensures.there;
@@ -134,9 +134,9 @@ follow_speeds-self-inside-requires-clause-speeds c =
     let sound : IsNetwork c.args.net.now = subst IsNetwork c.net.view_is c.net.invariant in
     rw c.deref_mut-3.ensures.value (λ k d within s. subst IsSpeed (sym (can.laid.speeds.values k d within s)) (speed_at-sound c.args.net.now _ s sound))
 
-pub sweep-requires-clause-sound : goal.sweep-requires-clause-sound
-sweep-requires-clause-sound c =
-    let e : After-follow_connectors-self-inside = (goal.at.sweep-requires-clause-sound c).After-follow_connectors-self-inside in
+pub sweep_all-requires-clause-sound : goal.sweep_all-requires-clause-sound
+sweep_all-requires-clause-sound c =
+    let e : After-follow_connectors-self-inside = (goal.at.sweep_all-requires-clause-sound c).After-follow_connectors-self-inside in
     let can = can-step e in
     let new = fresh e can in
     rw (c.deref_mut-6.ensures.value ∙ fresh-is e)
@@ -144,9 +144,9 @@ sweep-requires-clause-sound c =
     (sound-fresh c.args.net.now c.args.t can.n c.args.cells.now can.halo can.connectors (opened c.self.inside) (sending (renewed e)) c.args.put.now (sound e) c.requires.in_time
     can.laid can.bounds can.seen new.renewed))
 
-pub sweep-requires-clause-can : goal.sweep-requires-clause-can
-sweep-requires-clause-can c =
-    let e : After-follow_connectors-self-inside = (goal.at.sweep-requires-clause-can c).After-follow_connectors-self-inside in
+pub sweep_all-requires-clause-can : goal.sweep_all-requires-clause-can
+sweep_all-requires-clause-can c =
+    let e : After-follow_connectors-self-inside = (goal.at.sweep_all-requires-clause-can c).After-follow_connectors-self-inside in
     let can = can-step e in
     rw (c.deref_mut-6.ensures.value ∙ fresh-is e, c.deref.ensures.value ∙ speeds-are e, c.deref-2.ensures.value)
     (can-sweep c.args.net.now c.args.t can.n c.args.cells.now can.halo can.connectors (opened c.self.inside) c.args.put.now (renewed e) (sound e) c.requires.in_time
@@ -156,27 +156,28 @@ pub carry_all-requires-clause-each : goal.carry_all-requires-clause-each
 carry_all-requires-clause-each c =
     let e : After-follow_connectors-self-inside = (goal.at.carry_all-requires-clause-each c).After-follow_connectors-self-inside in
     let can = can-step e in
-    let states = c.sweep.new.states in
-    let before = c.sweep.new.before in
+    let states = c.sweep_all.new.states in
+    let before = c.sweep_all.new.before in
     let others : List FollowedConnector = c.follow_connectors-self-inside.new.connectors in
     let same : c.deref_mut-6.result.now ≡ c.refresh.new.states = c.deref_mut-6.ensures.value ∙ fresh-is e in
-    let is = is-swept e can c.deref_mut-6.result.now c.deref.result.now states before same (c.deref.ensures.value ∙ speeds-are e) c.sweep.auto.states c.sweep.ensures.states c.sweep.ensures.before (c.sweep.auto.before ∙ ap length c.deref_mut-7.ensures.value) in
-    rw (c.deref_mut-8.ensures.value ∙ swept-is e c.deref_mut-6.result.now states same c.sweep.auto.states, c.deref-3.ensures.value ∙ connectors-are e)
+    let is = is-swept e can c.deref_mut-6.result.now c.deref.result.now states before same (c.deref.ensures.value ∙ speeds-are e) c.sweep_all.auto.states c.sweep_all.ensures.states c.sweep_all.ensures.before (c.sweep_all.auto.before ∙ ap length c.deref_mut-7.ensures.value) in
+    rw (c.deref_mut-8.ensures.value ∙ swept-is e c.deref_mut-6.result.now states same c.sweep_all.auto.states, c.deref-3.ensures.value ∙ connectors-are e)
     (λ k d within. can-carry-each c.args.net.now c.args.cells.now can.halo can.connectors c.args.t can.n (opened c.self.inside) c.args.put.now (renewed e) others states before k d is within)
 
 pub carry_all-requires-clause-can : goal.carry_all-requires-clause-can
 carry_all-requires-clause-can c =
     let e : After-follow_connectors-self-inside = (goal.at.carry_all-requires-clause-can c).After-follow_connectors-self-inside in
     let can = can-step e in
-    let states = c.sweep.new.states in
-    let before = c.sweep.new.before in
+    let states = c.sweep_all.new.states in
+    let before = c.sweep_all.new.before in
     let others : List FollowedConnector = c.follow_connectors-self-inside.new.connectors in
     let same : c.deref_mut-6.result.now ≡ c.refresh.new.states = c.deref_mut-6.ensures.value ∙ fresh-is e in
-    let is = is-swept e can c.deref_mut-6.result.now c.deref.result.now states before same (c.deref.ensures.value ∙ speeds-are e) c.sweep.auto.states c.sweep.ensures.states c.sweep.ensures.before (c.sweep.auto.before ∙ ap length c.deref_mut-7.ensures.value) in
+    let is = is-swept e can c.deref_mut-6.result.now c.deref.result.now states before same (c.deref.ensures.value ∙ speeds-are e) c.sweep_all.auto.states c.sweep_all.ensures.states c.sweep_all.ensures.before (c.sweep_all.auto.before ∙ ap length c.deref_mut-7.ensures.value) in
     rw (
-      c.deref_mut-8.ensures.value ∙ swept-is e c.deref_mut-6.result.now states same c.sweep.auto.states,
+      c.deref_mut-8.ensures.value ∙ swept-is e c.deref_mut-6.result.now states same c.sweep_all.auto.states,
       c.deref-3.ensures.value ∙ connectors-are e,
-      c.deref-4.ensures.value ∙ with_items_is c.self.inside.before before (c.sweep.auto.before ∙ c.deref_mut-7.ensures.len),
+      c.deref-4.ensures.value ∙ speeds-are e,
+      c.deref-5.ensures.value ∙ with_items_is c.self.inside.before before (c.sweep_all.auto.before ∙ c.deref_mut-7.ensures.len),
     )
     (λ p within. can-pass-each c.args.net.now c.args.cells.now can.halo can.connectors c.args.t can.n (opened c.self.inside) c.args.put.now (renewed e) others states before p is within)
 
@@ -194,109 +195,109 @@ bring_demands-requires-clause-there c =
     let e : After-follow_connectors-self-inside = (goal.at.bring_demands-requires-clause-there c).After-follow_connectors-self-inside in
     let can = can-step e in
     let new = fresh e can in
-    let states = c.sweep.new.states in
+    let states = c.sweep_all.new.states in
     let same : c.deref_mut-6.result.now ≡ c.refresh.new.states = c.deref_mut-6.ensures.value ∙ fresh-is e in
-    let swept_is : c.deref_mut-8.result.now ≡ states = c.deref_mut-8.ensures.value ∙ swept-is e c.deref_mut-6.result.now states same c.sweep.auto.states in
+    let swept_is : c.deref_mut-8.result.now ≡ states = c.deref_mut-8.ensures.value ∙ swept-is e c.deref_mut-6.result.now states same c.sweep_all.auto.states in
     let carried_is : c.deref_mut-10.result.now ≡ c.carry_all.new.states =
-    c.deref_mut-10.ensures.value ∙ carried-is e c.deref_mut-6.result.now states c.deref_mut-8.result.now c.carry_all.new.states same c.sweep.auto.states swept_is c.carry_all.auto.states in
+    c.deref_mut-10.ensures.value ∙ carried-is e c.deref_mut-6.result.now states c.deref_mut-8.result.now c.carry_all.new.states same c.sweep_all.auto.states swept_is c.carry_all.auto.states in
     let long : length c.deref_mut-10.result.now ≡ length c.args.cells.now =
-    ap length carried_is ∙ c.carry_all.auto.states ∙ ap length swept_is ∙ c.sweep.auto.states ∙ ap length same ∙ new.kept.long ∙ can.laid.one_each in
+    ap length carried_is ∙ c.carry_all.auto.states ∙ ap length swept_is ∙ c.sweep_all.auto.states ∙ ap length same ∙ new.kept.long ∙ can.laid.one_each in
     rw (c.deref_mut-9.ensures.value, long) (gates-there c.args.net.now c.args.cells.now can.halo can.connectors c.args.t (opened c.self.inside) can.laid)
 
 pub bring_demands-requires-clause-fits : goal.bring_demands-requires-clause-fits
 bring_demands-requires-clause-fits c =
     let e : After-follow_connectors-self-inside = (goal.at.bring_demands-requires-clause-fits c).After-follow_connectors-self-inside in
     let can = can-step e in
-    let states = c.sweep.new.states in
-    let before = c.sweep.new.before in
+    let states = c.sweep_all.new.states in
+    let before = c.sweep_all.new.before in
     let others : List FollowedConnector = c.follow_connectors-self-inside.new.connectors in
     let same : c.deref_mut-6.result.now ≡ c.refresh.new.states = c.deref_mut-6.ensures.value ∙ fresh-is e in
-    let is = is-swept e can c.deref_mut-6.result.now c.deref.result.now states before same (c.deref.ensures.value ∙ speeds-are e) c.sweep.auto.states c.sweep.ensures.states c.sweep.ensures.before (c.sweep.auto.before ∙ ap length c.deref_mut-7.ensures.value) in
-    let swept_is : c.deref_mut-8.result.now ≡ states = c.deref_mut-8.ensures.value ∙ swept-is e c.deref_mut-6.result.now states same c.sweep.auto.states in
+    let is = is-swept e can c.deref_mut-6.result.now c.deref.result.now states before same (c.deref.ensures.value ∙ speeds-are e) c.sweep_all.auto.states c.sweep_all.ensures.states c.sweep_all.ensures.before (c.sweep_all.auto.before ∙ ap length c.deref_mut-7.ensures.value) in
+    let swept_is : c.deref_mut-8.result.now ≡ states = c.deref_mut-8.ensures.value ∙ swept-is e c.deref_mut-6.result.now states same c.sweep_all.auto.states in
     let carried_is : c.deref_mut-10.result.now ≡ c.carry_all.new.states =
-    c.deref_mut-10.ensures.value ∙ carried-is e c.deref_mut-6.result.now states c.deref_mut-8.result.now c.carry_all.new.states same c.sweep.auto.states swept_is c.carry_all.auto.states in
+    c.deref_mut-10.ensures.value ∙ carried-is e c.deref_mut-6.result.now states c.deref_mut-8.result.now c.carry_all.new.states same c.sweep_all.auto.states swept_is c.carry_all.auto.states in
     let passes : (p : ℕ) → p < length states → cell_state_at c.carry_all.new.states p ≡
-    passed (cell_state_at states p) (carried_to c.args.t before c.args.put.now others p) (outs_of c.args.t before c.args.put.now others p) =
-    rw (swept_is, c.deref-3.ensures.value ∙ connectors-are e, c.deref-4.ensures.value ∙ with_items_is c.self.inside.before before (c.sweep.auto.before ∙ c.deref_mut-7.ensures.len)) at c.carry_all.ensures in
+    passed (cell_state_at states p) (carried_to c.args.t c.follow_speeds-self-inside.new.speeds before c.args.put.now others p) (outs_of c.args.t c.follow_speeds-self-inside.new.speeds before c.args.put.now others p) =
+    rw (swept_is, c.deref-3.ensures.value ∙ connectors-are e, c.deref-4.ensures.value ∙ speeds-are e, c.deref-5.ensures.value ∙ with_items_is c.self.inside.before before (c.sweep_all.auto.before ∙ c.deref_mut-7.ensures.len)) at c.carry_all.ensures in
     rw (carried_is, c.deref_mut-9.ensures.value)
     (λ p within. can-enter-each c.args.net.now c.args.cells.now can.halo can.connectors c.args.t can.n (opened c.self.inside) c.args.put.now (renewed e) others states before c.carry_all.new.states p is (c.carry_all.auto.states ∙ ap length swept_is) passes within)
 
 -- once the gates have demanded
 
-taken-steps : (c : After-follow_connectors-self-inside) (can : Can c) (speeds : List (ℕ × ℕ)) (states swept_states before_carry carried before_demands after : List CellState) (before own : List ℕ) (others : List FollowedConnector) →
+taken-steps : (c : After-follow_connectors-self-inside) (can : Can c) (speeds : List (ℕ × ℕ)) (states swept_states before_carry carried before_demands after : List CellState) (before own : List ℕ) (own_speeds : List (ℕ × ℕ)) (others : List FollowedConnector) →
     (gates : List GatePlace) → speeds ≡ c.follow_speeds-self-inside.new.speeds → states ≡ c.refresh.new.states → length swept_states ≡ length states → ((p : ℕ) → p < length states → cell_state_at swept_states p ≡ swept states (at_speeds states speeds) p) →
-    ((p : ℕ) → p < length states → slice_index before p ≡ (cell_state_at states p).n) → length before ≡ length (opened c.self.inside).before → before_carry ≡ swept_states → others ≡ c.follow_connectors-self-inside.new.connectors → own ≡ before →
+    ((p : ℕ) → p < length states → slice_index before p ≡ (cell_state_at states p).n) → length before ≡ length (opened c.self.inside).before → before_carry ≡ swept_states → others ≡ c.follow_connectors-self-inside.new.connectors → own ≡ before → own_speeds ≡ c.follow_speeds-self-inside.new.speeds →
     length carried ≡ length before_carry →
     ((p : ℕ) → p < length before_carry → cell_state_at carried p ≡
-    passed (cell_state_at before_carry p) (carried_to c.args.t own c.args.put.now others p) (outs_of c.args.t own c.args.put.now others p)) →
+    passed (cell_state_at before_carry p) (carried_to c.args.t own_speeds own c.args.put.now others p) (outs_of c.args.t own_speeds own c.args.put.now others p)) →
     before_demands ≡ carried → gates ≡ (opened c.self.inside).gates → length after ≡ length before_demands →
     ((p : ℕ) → p < length before_demands → cell_state_at after p ≡ with_entered (cell_state_at before_demands p) (sum_by (demand_into c.args.t p) gates)) →
-    AreSteps c.args.net.now c.args.cells.now can.halo can.connectors c.args.t can.n (opened c.self.inside) (renewed c) (outs_of c.args.t before c.args.put.now c.follow_connectors-self-inside.new.connectors) (carried_to c.args.t before c.args.put.now c.follow_connectors-self-inside.new.connectors)
-    (ins_of c.args.t before c.args.put.now c.follow_connectors-self-inside.new.connectors (opened c.self.inside)) after
-taken-steps c can speeds states swept_states before_carry carried before_demands after before own others gates quick same long each noted noted_long swept_same others_same own_same long_carried passes
+    AreSteps c.args.net.now c.args.cells.now can.halo can.connectors c.args.t can.n (opened c.self.inside) (renewed c) (outs_of c.args.t c.follow_speeds-self-inside.new.speeds before c.args.put.now c.follow_connectors-self-inside.new.connectors) (carried_to c.args.t c.follow_speeds-self-inside.new.speeds before c.args.put.now c.follow_connectors-self-inside.new.connectors)
+    (ins_of c.args.t c.follow_speeds-self-inside.new.speeds before c.args.put.now c.follow_connectors-self-inside.new.connectors (opened c.self.inside)) after
+taken-steps c can speeds states swept_states before_carry carried before_demands after before own own_speeds others gates quick same long each noted noted_long swept_same others_same own_same speeds_same long_carried passes
     carried_same gates_same long_after enters =
     let is = is-swept c can states speeds swept_states before same quick long each noted noted_long in
     steps-of c.args.net.now c.args.cells.now can.halo can.connectors c.args.t can.n (opened c.self.inside) c.args.put.now (renewed c) c.follow_connectors-self-inside.new.connectors swept_states before carried after is (long_carried ∙ ap length swept_same) (long_after ∙ ap length carried_same)
-    (rw (swept_same, others_same, own_same) at passes) (rw (carried_same, gates_same) at enters)
+    (rw (swept_same, others_same, own_same, speeds_same) at passes) (rw (carried_same, gates_same) at enters)
 
 pub returns-clause-rows : goal.returns-clause-rows
 returns-clause-rows c =
     let e : After-follow_connectors-self-inside = (goal.at.returns-clause-rows c).After-follow_connectors-self-inside in
     let first = c.refresh.new.states in
-    let states = c.sweep.new.states in
-    let noted = c.sweep.new.before in
+    let states = c.sweep_all.new.states in
+    let noted = c.sweep_all.new.before in
     let carried = c.carry_all.new.states in
     let after = c.bring_demands.new.states in
     let others : List FollowedConnector = c.follow_connectors-self-inside.new.connectors in
     let same : c.deref_mut-6.result.now ≡ first = c.deref_mut-6.ensures.value ∙ fresh-is e in
-    let swept_is : c.deref_mut-8.result.now ≡ states = c.deref_mut-8.ensures.value ∙ swept-is e c.deref_mut-6.result.now states same c.sweep.auto.states in
+    let swept_is : c.deref_mut-8.result.now ≡ states = c.deref_mut-8.ensures.value ∙ swept-is e c.deref_mut-6.result.now states same c.sweep_all.auto.states in
     let carried_is : c.deref_mut-10.result.now ≡ carried =
-    c.deref_mut-10.ensures.value ∙ carried-is e c.deref_mut-6.result.now states c.deref_mut-8.result.now carried same c.sweep.auto.states swept_is c.carry_all.auto.states in
-    let before_is = with_items_is c.self.inside.before noted (c.sweep.auto.before ∙ c.deref_mut-7.ensures.len) in
+    c.deref_mut-10.ensures.value ∙ carried-is e c.deref_mut-6.result.now states c.deref_mut-8.result.now carried same c.sweep_all.auto.states swept_is c.carry_all.auto.states in
+    let before_is = with_items_is c.self.inside.before noted (c.sweep_all.auto.before ∙ c.deref_mut-7.ensures.len) in
     let after_is =
     with_items_is (with_items (with_items (with_items c.self.inside.states first) states) carried) after
-    (c.bring_demands.auto.states ∙ ap length carried_is ∙ c.carry_all.auto.states ∙ ap length swept_is ∙ c.sweep.auto.states ∙ ap length same
+    (c.bring_demands.auto.states ∙ ap length carried_is ∙ c.carry_all.auto.states ∙ ap length swept_is ∙ c.sweep_all.auto.states ∙ ap length same
     ∙ c.refresh.auto.states ∙ c.deref_mut-2.ensures.len) in
     let steps = λ (can : Can e).
-    taken-steps e can c.deref.result.now c.deref_mut-6.result.now states c.deref_mut-8.result.now carried c.deref_mut-10.result.now after noted c.deref-4.result.now c.deref-3.result.now
-    c.deref_mut-9.result.now (c.deref.ensures.value ∙ speeds-are e) same c.sweep.auto.states c.sweep.ensures.states c.sweep.ensures.before (c.sweep.auto.before ∙ ap length c.deref_mut-7.ensures.value) swept_is (c.deref-3.ensures.value ∙ connectors-are e)
-    (c.deref-4.ensures.value ∙ before_is) c.carry_all.auto.states c.carry_all.ensures carried_is c.deref_mut-9.ensures.value c.bring_demands.auto.states
+    taken-steps e can c.deref.result.now c.deref_mut-6.result.now states c.deref_mut-8.result.now carried c.deref_mut-10.result.now after noted c.deref-5.result.now c.deref-4.result.now c.deref-3.result.now
+    c.deref_mut-9.result.now (c.deref.ensures.value ∙ speeds-are e) same c.sweep_all.auto.states c.sweep_all.ensures.states c.sweep_all.ensures.before (c.sweep_all.auto.before ∙ ap length c.deref_mut-7.ensures.value) swept_is (c.deref-3.ensures.value ∙ connectors-are e)
+    (c.deref-5.ensures.value ∙ before_is) (c.deref-4.ensures.value ∙ speeds-are e) c.carry_all.auto.states c.carry_all.ensures carried_is c.deref_mut-9.ensures.value c.bring_demands.auto.states
     c.bring_demands.ensures.states in
     rw (after_is, waited-unowed c.self.inside.pause.owed after (none-owed e)) (
     rows-read c.args.net.now c.args.cells.now c.args.t (opened c.self.inside) c.args.self.now c.args.put.now c.self.inside.constants.items after (opened-is c.self.inside c.args.self.now c.self.view_is c.requires.none_owed)
     (λ can.
-    rows-after c.args.net.now c.args.cells.now can.halo can.connectors c.args.t can.n (opened c.self.inside) (renewed e) (outs_of c.args.t noted c.args.put.now others) (carried_to c.args.t noted c.args.put.now others) (ins_of c.args.t noted c.args.put.now others (opened c.self.inside)) after
+    rows-after c.args.net.now c.args.cells.now can.halo can.connectors c.args.t can.n (opened c.self.inside) (renewed e) (outs_of c.args.t c.follow_speeds-self-inside.new.speeds noted c.args.put.now others) (carried_to c.args.t c.follow_speeds-self-inside.new.speeds noted c.args.put.now others) (ins_of c.args.t c.follow_speeds-self-inside.new.speeds noted c.args.put.now others (opened c.self.inside)) after
     c.args.put.now (sound e) c.requires.in_time can.laid can.bounds can.seen (steps can)))
 
 pub returns-clause-placed : goal.returns-clause-placed
 returns-clause-placed c =
     let e : After-follow_connectors-self-inside = (goal.at.returns-clause-placed c).After-follow_connectors-self-inside in
     let first = c.refresh.new.states in
-    let states = c.sweep.new.states in
-    let noted = c.sweep.new.before in
+    let states = c.sweep_all.new.states in
+    let noted = c.sweep_all.new.before in
     let carried = c.carry_all.new.states in
     let after = c.bring_demands.new.states in
     let others : List FollowedConnector = c.follow_connectors-self-inside.new.connectors in
     let same : c.deref_mut-6.result.now ≡ first = c.deref_mut-6.ensures.value ∙ fresh-is e in
-    let swept_is : c.deref_mut-8.result.now ≡ states = c.deref_mut-8.ensures.value ∙ swept-is e c.deref_mut-6.result.now states same c.sweep.auto.states in
+    let swept_is : c.deref_mut-8.result.now ≡ states = c.deref_mut-8.ensures.value ∙ swept-is e c.deref_mut-6.result.now states same c.sweep_all.auto.states in
     let carried_is : c.deref_mut-10.result.now ≡ carried =
-    c.deref_mut-10.ensures.value ∙ carried-is e c.deref_mut-6.result.now states c.deref_mut-8.result.now carried same c.sweep.auto.states swept_is c.carry_all.auto.states in
-    let before_is = with_items_is c.self.inside.before noted (c.sweep.auto.before ∙ c.deref_mut-7.ensures.len) in
+    c.deref_mut-10.ensures.value ∙ carried-is e c.deref_mut-6.result.now states c.deref_mut-8.result.now carried same c.sweep_all.auto.states swept_is c.carry_all.auto.states in
+    let before_is = with_items_is c.self.inside.before noted (c.sweep_all.auto.before ∙ c.deref_mut-7.ensures.len) in
     let after_is =
     with_items_is (with_items (with_items (with_items c.self.inside.states first) states) carried) after
-    (c.bring_demands.auto.states ∙ ap length carried_is ∙ c.carry_all.auto.states ∙ ap length swept_is ∙ c.sweep.auto.states ∙ ap length same
+    (c.bring_demands.auto.states ∙ ap length carried_is ∙ c.carry_all.auto.states ∙ ap length swept_is ∙ c.sweep_all.auto.states ∙ ap length same
     ∙ c.refresh.auto.states ∙ c.deref_mut-2.ensures.len) in
     let steps = λ (can : Can e).
-    taken-steps e can c.deref.result.now c.deref_mut-6.result.now states c.deref_mut-8.result.now carried c.deref_mut-10.result.now after noted c.deref-4.result.now c.deref-3.result.now
-    c.deref_mut-9.result.now (c.deref.ensures.value ∙ speeds-are e) same c.sweep.auto.states c.sweep.ensures.states c.sweep.ensures.before (c.sweep.auto.before ∙ ap length c.deref_mut-7.ensures.value) swept_is (c.deref-3.ensures.value ∙ connectors-are e)
-    (c.deref-4.ensures.value ∙ before_is) c.carry_all.auto.states c.carry_all.ensures carried_is c.deref_mut-9.ensures.value c.bring_demands.auto.states
+    taken-steps e can c.deref.result.now c.deref_mut-6.result.now states c.deref_mut-8.result.now carried c.deref_mut-10.result.now after noted c.deref-5.result.now c.deref-4.result.now c.deref-3.result.now
+    c.deref_mut-9.result.now (c.deref.ensures.value ∙ speeds-are e) same c.sweep_all.auto.states c.sweep_all.ensures.states c.sweep_all.ensures.before (c.sweep_all.auto.before ∙ ap length c.deref_mut-7.ensures.value) swept_is (c.deref-3.ensures.value ∙ connectors-are e)
+    (c.deref-5.ensures.value ∙ before_is) (c.deref-4.ensures.value ∙ speeds-are e) c.carry_all.auto.states c.carry_all.ensures carried_is c.deref_mut-9.ensures.value c.bring_demands.auto.states
     c.bring_demands.ensures.states in
     let placed : PlacedCells = opened c.self.inside in
     let gates = c.bring_demands.new.gates in
     let pause = c.self.inside.pause in
     let none = none-owed e in
     let until : pause.until ≡ 0 = ap (λ cells. cells.pause.until) c.self.view_is ∙ c.requires.awake in
-    let noted_long : length noted ≡ length placed.before = c.sweep.auto.before ∙ ap length c.deref_mut-7.ensures.value in
+    let noted_long : length noted ≡ length placed.before = c.sweep_all.auto.before ∙ ap length c.deref_mut-7.ensures.value in
     rw (
       after_is,
       waited-unowed pause.owed after none,
@@ -309,7 +310,7 @@ returns-clause-placed c =
     )
     (placed-read c.args.net.now c.args.cells.now c.args.t placed c.args.self.now c.args.put.now _ (opened-is c.self.inside c.args.self.now c.self.view_is c.requires.none_owed)
     (λ can.
-    placed-after c.args.net.now c.args.cells.now can.halo can.connectors c.args.t can.n placed (renewed e) (outs_of c.args.t noted c.args.put.now others) (carried_to c.args.t noted c.args.put.now others) (ins_of c.args.t noted c.args.put.now others placed) after
+    placed-after c.args.net.now c.args.cells.now can.halo can.connectors c.args.t can.n placed (renewed e) (outs_of c.args.t c.follow_speeds-self-inside.new.speeds noted c.args.put.now others) (carried_to c.args.t c.follow_speeds-self-inside.new.speeds noted c.args.put.now others) (ins_of c.args.t c.follow_speeds-self-inside.new.speeds noted c.args.put.now others placed) after
     noted others c.follow_connectors-self-inside.result gates pause c.self.inside.seen.items c.args.put.now (sound e) c.requires.in_time can.laid can.bounds can.seen (steps can) noted_long
     (followed e) c.follow_connectors-self-inside.ensures.until (rw c.deref_mut-9.ensures.value at c.bring_demands.ensures.gates)
     (record { idle = λ s less. absurd (omega (arith, less, until)); owed = omega (arith, none); kept = λ some. absurd (omega (arith, none, some)) })
@@ -323,8 +324,8 @@ returns-clause-before c = λ p within.
     let states : c.deref_mut-6.result.now ≡ c.refresh.new.states = c.deref_mut-6.ensures.value ∙ fresh-is e in
     let here : p < length c.self.inside.states.items = omega (arith, can.laid.one_each) in
     let there : p < length c.deref_mut-6.result.now = omega (arith, ap length states, new.kept.long) in
-    rw (with_items_is c.self.inside.before c.sweep.new.before (c.sweep.auto.before ∙ c.deref_mut-7.ensures.len)) (
-    c.sweep.ensures.before p there ∙ ap (λ list. (cell_state_at list p).n) states ∙ ap (λ state. state.n) (new.kept.only_most p here)
+    rw (with_items_is c.self.inside.before c.sweep_all.new.before (c.sweep_all.auto.before ∙ c.deref_mut-7.ensures.len)) (
+    c.sweep_all.ensures.before p there ∙ ap (λ list. (cell_state_at list p).n) states ∙ ap (λ state. state.n) (new.kept.only_most p here)
     ∙ ap (λ cells. (cell_state_at cells.states p).n) (opened-is c.self.inside c.args.self.now c.self.view_is c.requires.none_owed)
     )
 
@@ -332,27 +333,27 @@ pub invariant_of-self : goal.invariant_of-self
 invariant_of-self c =
     let e : After-follow_connectors-self-inside = (goal.at.invariant_of-self c).After-follow_connectors-self-inside in
     let first = c.refresh.new.states in
-    let states = c.sweep.new.states in
-    let noted = c.sweep.new.before in
+    let states = c.sweep_all.new.states in
+    let noted = c.sweep_all.new.before in
     let carried = c.carry_all.new.states in
     let after = c.bring_demands.new.states in
     let others : List FollowedConnector = c.follow_connectors-self-inside.new.connectors in
     let same : c.deref_mut-6.result.now ≡ first = c.deref_mut-6.ensures.value ∙ fresh-is e in
-    let swept_is : c.deref_mut-8.result.now ≡ states = c.deref_mut-8.ensures.value ∙ swept-is e c.deref_mut-6.result.now states same c.sweep.auto.states in
+    let swept_is : c.deref_mut-8.result.now ≡ states = c.deref_mut-8.ensures.value ∙ swept-is e c.deref_mut-6.result.now states same c.sweep_all.auto.states in
     let carried_is : c.deref_mut-10.result.now ≡ carried =
-    c.deref_mut-10.ensures.value ∙ carried-is e c.deref_mut-6.result.now states c.deref_mut-8.result.now carried same c.sweep.auto.states swept_is c.carry_all.auto.states in
-    let before_is = with_items_is c.self.inside.before noted (c.sweep.auto.before ∙ c.deref_mut-7.ensures.len) in
+    c.deref_mut-10.ensures.value ∙ carried-is e c.deref_mut-6.result.now states c.deref_mut-8.result.now carried same c.sweep_all.auto.states swept_is c.carry_all.auto.states in
+    let before_is = with_items_is c.self.inside.before noted (c.sweep_all.auto.before ∙ c.deref_mut-7.ensures.len) in
     let after_is =
     with_items_is (with_items (with_items (with_items c.self.inside.states first) states) carried) after
-    (c.bring_demands.auto.states ∙ ap length carried_is ∙ c.carry_all.auto.states ∙ ap length swept_is ∙ c.sweep.auto.states ∙ ap length same
+    (c.bring_demands.auto.states ∙ ap length carried_is ∙ c.carry_all.auto.states ∙ ap length swept_is ∙ c.sweep_all.auto.states ∙ ap length same
     ∙ c.refresh.auto.states ∙ c.deref_mut-2.ensures.len) in
     let steps = λ (can : Can e).
-    taken-steps e can c.deref.result.now c.deref_mut-6.result.now states c.deref_mut-8.result.now carried c.deref_mut-10.result.now after noted c.deref-4.result.now c.deref-3.result.now
-    c.deref_mut-9.result.now (c.deref.ensures.value ∙ speeds-are e) same c.sweep.auto.states c.sweep.ensures.states c.sweep.ensures.before (c.sweep.auto.before ∙ ap length c.deref_mut-7.ensures.value) swept_is (c.deref-3.ensures.value ∙ connectors-are e)
-    (c.deref-4.ensures.value ∙ before_is) c.carry_all.auto.states c.carry_all.ensures carried_is c.deref_mut-9.ensures.value c.bring_demands.auto.states
+    taken-steps e can c.deref.result.now c.deref_mut-6.result.now states c.deref_mut-8.result.now carried c.deref_mut-10.result.now after noted c.deref-5.result.now c.deref-4.result.now c.deref-3.result.now
+    c.deref_mut-9.result.now (c.deref.ensures.value ∙ speeds-are e) same c.sweep_all.auto.states c.sweep_all.ensures.states c.sweep_all.ensures.before (c.sweep_all.auto.before ∙ ap length c.deref_mut-7.ensures.value) swept_is (c.deref-3.ensures.value ∙ connectors-are e)
+    (c.deref-5.ensures.value ∙ before_is) (c.deref-4.ensures.value ∙ speeds-are e) c.carry_all.auto.states c.carry_all.ensures carried_is c.deref_mut-9.ensures.value c.bring_demands.auto.states
     c.bring_demands.ensures.states in
     let can = can-step e in
-    let noted_long : length noted ≡ length (opened c.self.inside).before = c.sweep.auto.before ∙ ap length c.deref_mut-7.ensures.value in
+    let noted_long : length noted ≡ length (opened c.self.inside).before = c.sweep_all.auto.before ∙ ap length c.deref_mut-7.ensures.value in
     rw (after_is, waited-unowed c.self.inside.pause.owed after (none-owed e), before_is)
-    (settled-after c.args.net.now c.args.cells.now can.halo can.connectors c.args.t can.n (opened c.self.inside) (renewed e) (outs_of c.args.t noted c.args.put.now others) (carried_to c.args.t noted c.args.put.now others) (ins_of c.args.t noted c.args.put.now others (opened c.self.inside)) after
+    (settled-after c.args.net.now c.args.cells.now can.halo can.connectors c.args.t can.n (opened c.self.inside) (renewed e) (outs_of c.args.t c.follow_speeds-self-inside.new.speeds noted c.args.put.now others) (carried_to c.args.t c.follow_speeds-self-inside.new.speeds noted c.args.put.now others) (ins_of c.args.t c.follow_speeds-self-inside.new.speeds noted c.args.put.now others (opened c.self.inside)) after
     noted c.args.put.now (sound e) c.requires.in_time can.laid can.bounds can.seen (steps can) noted_long)

@@ -1,8 +1,9 @@
 use Rattle.std.specs.Prelude.{map}
 use Rattle.std.proofs.Common.{◌≡◌, ◌+◌, ℕ, List, sym, ap, ◌∙◌}
 use Rattle.region_body.specs.Placed.{PlacedCells}
-use Rattle.region_body.specs.Waiting.{waited}
-use Rattle.region_body.proofs.Stays.{settled-waits, waited-more}
+use Rattle.cell_sweep.specs.Waiting.{waited}
+use Rattle.cell_sweep.proofs.Waits.{waited-more}
+use Rattle.region_body.proofs.Stays.{settled-waits}
 use Rattle.region_body.proofs.placed.PlacedRows.wait.Goals as goal
 
 pub invariant_of-self : goal.invariant_of-self

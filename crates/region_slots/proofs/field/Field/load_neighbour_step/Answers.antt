@@ -1,6 +1,6 @@
 use Rattle.std.proofs.Common.{inl, inr, ◌≡◌, ◌<◌, true, arith, ap, sym, ◌∙◌, length}
 use Rattle.std.proofs.lemmas.Bool.{cases_lt}
-use Rattle.region_cut.specs.Joins.{are_neighbours}
+use Rattle.region_cut.specs.Neighbours.{are_neighbours}
 use Rattle.border_rows.specs.Places.{step_place, widths_of, words_of}
 use Rattle.border_rows.specs.declared.view.Terms.{Terms}
 use Rattle.border_rows.proofs.ClaimKinds.{within-widths}

@@ -1,6 +1,5 @@
 use Rattle.std.specs.Prelude.{slice_index}
 use Rattle.std.proofs.Common.{◌≡◌, ◌≤◌, ℕ, ◌+◌, true, refl, sym, ap, subst, ◌∙◌}
-use Rattle.region_step.specs.Standing.{Stands}
 use Rattle.atomic_table.specs.Table.{rest}
 use Rattle.border_rows.specs.Kinds.{published, with_first}
 use Rattle.border_rows.specs.Places.{width_at, widths_of}
@@ -12,7 +11,7 @@ use Rattle.region_slots.proofs.RowFilling.{written_to, wrote_many-works}
 use Rattle.region_slots.proofs.field.Field.rises.Goals as goal
 
 pub publish_step-requires-clause-working : goal.publish_step-requires-clause-working
-publish_step-requires-clause-working c =
+publish_step-requires-clause-working g c =
     let width : ℕ = width_at (widths_of c.args.self.now.terms.setup.now.chart) c.args.region in
     let at = c.requires.at in
     let view : c.fills.new.seat.me.0 ≡ wrote_many c.args.seat.now.me.0 width =
@@ -25,13 +24,12 @@ publish_step-requires-clause-working c =
       (λ q near. c.requires.cleared.all at.hold q at.works near),
     )
 
-pub free-requires-clause-state : goal.free-requires-clause-state
-free-requires-clause-state c =
+pub release_risen-requires-clause-state : goal.release_risen-requires-clause-state
+release_risen-requires-clause-state g c κs within =
     let width : ℕ = width_at (widths_of c.args.self.now.terms.setup.now.chart) c.args.region in
     let at = c.requires.at in
     let view : c.fills.new.seat.me.0 ≡ wrote_many c.args.seat.now.me.0 width =
     ap (λ m. m.0) c.fills.ensures.written ∙ ap (λ (v : View). wrote_many v width) (ap (λ m. m.0) c.advances.ensures.advanced.1 ∙ ap (λ m. m.0) c.tells.ensures.told.1) in
-    let terms = c.args.self.now.terms in
     let advanced = c.advances.ensures.advanced in
     let r : ℕ = c.args.region in
     let done : Hold → Hold = λ hold. record hold { published = true } in (
@@ -42,16 +40,18 @@ free-requires-clause-state c =
       ap (λ m. m.0.holds) c.publish_step.ensures.risen ∙ ap (λ (v : View). (published v r (c.args.step + 1)).holds) view ∙ ap (λ holds. with_first done (with_first (written_to width) holds)) at.works.holds,
       at.region,
       at.works.known,
+      at.step,
+      refl,
       ap (λ m. m.1) c.publish_step.ensures.risen ∙ ap (λ m. m.1) c.fills.ensures.written ∙ ap (λ m. m.1) advanced.1,
-      subst (λ n. Stands terms.setup.now r (n + 1) advanced.0) (sym at.step) advanced.2,
+      advanced.2,
     )
 
 pub returns-clause-later : goal.returns-clause-later
-returns-clause-later c =
+returns-clause-later g c =
     let width : ℕ = width_at (widths_of c.args.self.now.terms.setup.now.chart) c.args.region in
     let view : c.fills.new.seat.me.0 ≡ wrote_many c.args.seat.now.me.0 width =
     ap (λ m. m.0) c.fills.ensures.written ∙ ap (λ (v : View). wrote_many v width) (ap (λ m. m.0) c.advances.ensures.advanced.1 ∙ ap (λ m. m.0) c.tells.ensures.told.1) in
     subst (λ (v : View). slice_index v.seen c.args.region ≤ c.args.step + 1) view c.publish_step.ensures.later
 
 pub returns-clause-in_time : goal.returns-clause-in_time
-returns-clause-in_time c = subst (HasSeenInTime c.args.self.now.terms) (sym (ap (λ m. m.0) c.free.ensures.given)) c.free.ensures.in_time
+returns-clause-in_time g c = subst (HasSeenInTime c.args.self.now.terms) (sym (ap (λ m. m.0) c.release_risen.ensures.given)) c.release_risen.ensures.in_time

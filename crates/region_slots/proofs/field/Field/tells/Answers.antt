@@ -13,7 +13,7 @@ use Rattle.region_slots.specs.Turning.{IsTold, field_held}
 use Rattle.std.specs.Prelude.{map}
 use Rattle.std.proofs.lemmas.List.{get_or-map}
 use Rattle.region_cut.specs.declared.halo.Halo.{Halo}
-use Rattle.region_cut.specs.Joins.{are_neighbours}
+use Rattle.region_cut.specs.Neighbours.{are_neighbours}
 use Rattle.region_step.proofs.Ground.{ground}
 use Rattle.region_slots.specs.FieldView.{IsWorkingAt}
 use Rattle.region_slots.proofs.Telling.{halo-beside, same-slot, told-more, told-none}

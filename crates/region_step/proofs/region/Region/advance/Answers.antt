@@ -1,10 +1,11 @@
 use Rattle.std.specs.Prelude.{Option, None, replicate, if◌then◌else◌}
 use Rattle.std.proofs.Common.{◌≡◌, ℕ, ◌+◌, ◌<◌, true, [], ◌++◌, length, ap, arith, refl, subst, sym, ◌∙◌}
 use Rattle.std.proofs.lemmas.List.{length-replicate, with_items_is}
-use Rattle.network_file.specs.Network.{IsNetwork}
+use Rattle.network_file.specs.Sound.{IsNetwork}
 use Rattle.region_cut.specs.Cuttings.{region_count}
 use Rattle.region_step.specs.Advance.{HasRowsInBounds, advanced, next_rows_of}
-use Rattle.region_step.specs.Recording.{is_recorded, notes_of}
+use Rattle.region_step.specs.Recording.{is_recorded}
+use Rattle.region_step.specs.Noting.{notes_of}
 use Rattle.region_step.specs.Region.{RegionState}
 use Rattle.region_step.proofs.Advancing.{advanced-built, advanced-in_bounds, advanced-inside, can_advance-read, length-next_rows_of, notes-fit, stepped-read}
 use Rattle.region_step.proofs.Ground.{ground}

@@ -1,10 +1,10 @@
 use Rattle.std.specs.Prelude.{replicate}
 use Rattle.std.proofs.Common.{◌≡◌, ℕ, length, ap, arith, refl, subst, sym, ◌∙◌}
-use Rattle.network_file.specs.Network.{IsNetwork}
+use Rattle.network_file.specs.Sound.{IsNetwork}
 use Rattle.region_cut.specs.Cuttings.{region_count}
 use Rattle.region_cut.specs.LawfulSteps.{AreLawful}
 use Rattle.flow_model.specs.State.{state_at}
-use Rattle.region_step.specs.Start.{Fits, IsTrueStart}
+use Rattle.region_step.specs.Starting.{Fits, IsTrueStart}
 use Rattle.region_step.proofs.StartLaws.{zero_start-fits, zero_start-lawful, zero_start-true}
 use Rattle.region_step.proofs.start.Start.zero.Goals as goal
 

@@ -1,5 +1,5 @@
 use Rattle.std.proofs.Common.{◌≡◌, ap, subst}
-use Rattle.network_file.specs.Network.{IsNetwork}
+use Rattle.network_file.specs.Sound.{IsNetwork}
 use Rattle.snapshot.specs.RunLaws.{cell_step}
 use Rattle.snapshot.proofs.RunLaws.{stand_at}
 use Rattle.snapshot.proofs.room.ShotRoom.books.Goals as goal

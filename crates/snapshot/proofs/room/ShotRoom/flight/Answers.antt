@@ -1,6 +1,6 @@
 use Rattle.std.specs.Int.{w128}
 use Rattle.std.proofs.Common.{◌≡◌, ap, rules, subst, to_z, of_z}
-use Rattle.network_file.specs.Network.{IsNetwork}
+use Rattle.network_file.specs.Sound.{IsNetwork}
 use Rattle.snapshot.proofs.RunLaws.{link_flow, step_flow}
 use Rattle.snapshot.proofs.room.ShotRoom.flight.Goals as goal
 

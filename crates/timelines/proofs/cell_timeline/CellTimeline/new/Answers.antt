@@ -1,6 +1,6 @@
 use Rattle.std.proofs.Common.{◌≡◌, sym, ap, ◌∙◌}
-use Rattle.signal_plan.specs.Capacity.{capacity_at}
-use Rattle.signal_plan.specs.Changes.{in_force}
+use Rattle.step_plan.specs.Capacity.{capacity_at}
+use Rattle.step_plan.specs.Changes.{in_force}
 use Rattle.timelines.specs.Timelines.{value_at}
 use Rattle.timelines.proofs.Starts.{in_force-start}
 use Rattle.timelines.proofs.Cells.{most-by}

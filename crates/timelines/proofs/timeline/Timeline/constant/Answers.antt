@@ -1,6 +1,6 @@
 use Rattle.std.proofs.Common.{ap, ◌∙◌}
-use Rattle.signal_plan.specs.Changes.{in_force}
-use Rattle.signal_plan.proofs.Changes.{in_force-nil}
+use Rattle.step_plan.specs.Changes.{in_force}
+use Rattle.step_plan.proofs.Changes.{in_force-nil}
 use Rattle.timelines.specs.Timelines.{value_at}
 use Rattle.timelines.proofs.timeline.Timeline.constant.Goals as goal
 

@@ -1,9 +1,9 @@
 use Rattle.std.proofs.Common.{◌≡◌, ℕ, List, [], sym, ap, ◌∙◌, arith}
 use Rattle.std.proofs.lemmas.Bool.Decides.{nat_tests}
 use Rattle.std.proofs.lemmas.List.{nil_from_length}
-use Rattle.signal_plan.specs.Changes.{in_force}
-use Rattle.signal_plan.specs.declared.change.Change.{Change}
-use Rattle.signal_plan.proofs.Changes.{in_force-nil}
+use Rattle.step_plan.specs.Changes.{in_force}
+use Rattle.step_plan.specs.declared.change.Change.{Change}
+use Rattle.step_plan.proofs.Changes.{in_force-nil}
 use Rattle.timelines.specs.Timelines.{value_at}
 use Rattle.timelines.proofs.timeline.Timeline.is_constant.Goals as goal
 

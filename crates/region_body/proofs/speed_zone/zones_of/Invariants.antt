@@ -1,7 +1,0 @@
-use Rattle.region_body.specs.SpeedZones.{is_all_slow_four, is_slow_four}
-use Rattle.region_body.specs.Speeds.{is_slow}
-use Rattle.region_body.proofs.ZonesMade.{AreZonesTo}
-use Rattle.region_body.proofs.speed_zone.zones_of.Given as goal
-
-abbrev pub invariant-loop-m : goal.invariant-loop-m
-invariant-loop-m l = AreZonesTo (is_slow_four (is_slow l.net l.cells)) (is_all_slow_four (is_slow l.net l.cells)) l.from l.m l.slow l.all_slow l.zones.items

@@ -1,6 +1,0 @@
-use Rattle.std.proofs.Common.{[]}
-use Rattle.region_body.specs.Sweeping.{IsSweptTo}
-use Rattle.region_body.proofs.sweep_free.sweep_free.Given as goal
-
-abbrev pub invariant-loop-p : goal.invariant-loop-p
-invariant-loop-p l = IsSweptTo l.fn.states [] l.p l.states l.before l.flow

@@ -1,7 +1,0 @@
-use Rattle.std.specs.Prelude.{slice_index}
-use Rattle.std.proofs.Common.{◌≡◌, ℕ, ◌<◌}
-use Rattle.region_body.specs.CellStates.{cell_state_at}
-use Rattle.region_body.proofs.waiting.note_held.Given as goal
-
-abbrev pub invariant-loop-p : goal.invariant-loop-p
-invariant-loop-p l = (k : ℕ) → k < l.p → slice_index l.before k ≡ (cell_state_at l.states k).n

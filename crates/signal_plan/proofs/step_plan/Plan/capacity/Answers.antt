@@ -1,8 +1,0 @@
-use Rattle.std.proofs.Common.{◌∙◌}
-use Rattle.signal_plan.proofs.CellReads.{capacity_read}
-use Rattle.signal_plan.proofs.step_plan.Plan.capacity.Goals as goal
-
-pub returns : goal.returns
-returns c =
-    let has = rw (← c.self.view_is) at c.requires.has_cell in
-    rw (← c.self.view_is) (c.capacity_at.ensures ∙ capacity_read _ c.args.cell c.args.t _ has c.index.ensures)

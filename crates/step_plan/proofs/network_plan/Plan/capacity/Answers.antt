@@ -1,0 +1,8 @@
+use Rattle.std.proofs.Common.{◌∙◌}
+use Rattle.step_plan.proofs.CellReads.{capacity_read}
+use Rattle.step_plan.proofs.network_plan.Plan.capacity.Goals as goal
+
+pub returns : goal.returns
+returns c =
+    let has = rw (← c.self.view_is) at c.requires.has_cell in
+    rw (← c.self.view_is) (c.capacity_at.ensures ∙ capacity_read _ c.args.cell c.args.t _ has c.index.ensures)

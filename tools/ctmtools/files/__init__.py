@@ -1,0 +1,2 @@
+# Imports texts
+"""Files: what they are, written as wholes, packed, sealed and checked."""

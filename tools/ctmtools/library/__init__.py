@@ -1,0 +1,2 @@
+# Imports all but commands
+"""The public functions, which commands call as well."""

@@ -1,0 +1,2 @@
+# Imports nothing
+"""Texts and numbers as files, messages and tables spell them."""

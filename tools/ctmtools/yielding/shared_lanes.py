@@ -1,0 +1,59 @@
+"""What passes of those who give way in lanes that they share with others.
+
+The shared lane of the Highway Capacity Manual (2010, chapter 19; 2016, chapter 20): where `v` vehicles/h of each movement come, of
+which from a lane of its own `c` may pass, a lane passes `sum of v / sum of v/c` of all. So each has the lane for its part of
+`sum of v/c`. Several lanes are shared alike, but each movement that gives way passes as from one of them.
+"""
+
+from __future__ import annotations
+
+from collections.abc import Container, Mapping, Sequence
+from dataclasses import dataclass
+
+import numpy
+
+from ..arrays import Numbers
+from ..report.reading import Report
+from ..study.plan import Lanes
+from ..units import Units, cell_of
+from .conflicts import come_to, total
+
+A_VEHICLE = 1.0  # vehicles/h below which a limit isn't held against itself
+
+
+@dataclass(frozen=True)
+class SharedLanes:
+    """The lanes that a movement shares: how many, the cells of all who stand in them, and what a lane passes in vehicles/h."""
+
+    count: int
+    cells: Sequence[str]
+    saturation: float
+
+    @classmethod
+    def of(cls, lanes: Lanes, units: Units, most: Mapping[str, float]) -> SharedLanes:
+        """Those of a study's network, whose cells pass so much at most."""
+        cells = [cell_of(road, units) for road in lanes.roads]
+        return cls(lanes.count, cells, max(most[cell] / units.cells[cell]["lanes"] for cell in cells))
+
+    def shares(self, report: Report, bounds: Numbers) -> dict[str, Numbers]:
+        """The part of each movement of those who come in an interval; of those of all intervals where nobody comes."""
+        flows = {cell: come_to(report, cell, bounds) for cell in self.cells}
+        every = sum(flow.sum() for flow in flows.values())
+        sums = total(list(flows.values()), bounds)
+        return {cell: numpy.where(sums > 0, flow / numpy.where(sums > 0, sums, 1), flow.sum() / every if every else 0.0)
+                for cell, flow in flows.items()}
+
+    def part(self, own: str, shares: Mapping[str, Numbers], passing: Mapping[str, Numbers]) -> Numbers:
+        """The part of what may pass of a movement from a lane of its own that passes in these lanes, where all are full.
+
+        `passing` is what may pass of each from a lane of its own.
+        """
+        loads = {cell: share / numpy.maximum(passing[cell], A_VEHICLE) for cell, share in shares.items()}
+        every = sum(loads.values())
+        part = self.count * loads[own] / numpy.where(every > 0, every, 1)
+        return numpy.where(loads[own] > 0, numpy.minimum(1.0, part), 1.0)
+
+    def freely(self, report: Report, bounds: Numbers, giving: Container[str]) -> Numbers:
+        """The part of the lanes' time that those take who give way to nobody."""
+        return total([come_to(report, cell, bounds) for cell in self.cells if cell not in giving], bounds) / (
+            self.saturation * self.count)
