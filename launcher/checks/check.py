@@ -1,6 +1,6 @@
 """./check [PART [WORDS] | --quick | --changed [COMMIT] | --list | --help]
 
-  ./check               every proof, must-fail edit and test, one part after another
+  ./check               every proof, must-fail edit and test, one part after another, tests by as many processes as processors
   ./check --quick       all but proofs, edits, stress and fuzz, side by side, on the built program or else on a trial's
   ./check --changed     what the changes that git knows of can reach, and what that leaves out; since COMMIT, where one is named
   ./check PART [WORDS]  one part: tools tests/test_units.py -k mph, crate region_cut, program
@@ -64,7 +64,8 @@ def chosen(words):
 
 
 def whole():
-    jobs = [Job(part) for part in PARTS if not part.is_for_words]
+    processes = processors()
+    jobs = [Job(part, processes=processes) for part in PARTS if not part.is_for_words]
     need(jobs)
     tell_time(jobs)
     programs = programs_of.of_proofs()
