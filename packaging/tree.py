@@ -8,9 +8,10 @@ from bill import BILL, bill_of
 from built import PROGRAMS, TOP, Built
 from word_table import read_table
 
+EXAMPLES = ("examples/README.md", "examples/*.csv", "examples/*.toml", "examples/*.txt", "examples/*.osm", "examples/*.plans",
+            "examples/*.report", "examples/validation/*")
 DOCUMENTS = ("README.md", "CHANGELOG.md", "SECURITY.md", "docs/*.md", "docs/how-to/*.md", "docs/pictures/*", "docs/inside/*.md",
-             "docs/inside/pictures/*", "docs/web/*.md", "examples/README.md", "examples/*.csv", "examples/*.toml", "examples/*.txt",
-             "examples/*.osm", "examples/*.plans", "examples/*.report", "examples/validation/*")
+             "docs/inside/pictures/*", "docs/web/*.md", *EXAMPLES)
 TOOLS_DOCUMENTS = ("tools/README.md", "tools/docs/*.md")
 LICENSES = ("LICENSE-*",)
 # Where the shells look for the completions of a command, below share.

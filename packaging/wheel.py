@@ -1,4 +1,4 @@
-"""The wheel: the Python package ctmtools with the programs, so that one `pip install` gives ctm and ctm-tools."""
+"""The wheel: the Python package ctmtools with the programs and the examples, so that one `pip install` gives ctm and ctm-tools."""
 
 import os
 import shutil
@@ -7,7 +7,7 @@ from pathlib import Path
 
 from built import TOP, Built
 from standard_tool import call
-from tree import LICENSES, lay_files, lay_package, lay_programs, lay_tools_pages
+from tree import EXAMPLES, LICENSES, lay_documents, lay_files, lay_package, lay_programs, lay_tools_pages
 
 PLATFORM = "linux_x86_64"
 SCRIPTS = ("bin/ctm", "bin/ctm-wait")
@@ -19,6 +19,7 @@ def make_wheel(built: Built, work: Path) -> Path:
     lay_package(sources)
     lay_programs(sources, built)
     lay_tools_pages(sources)
+    lay_documents(sources, EXAMPLES)
     lay_files(sources, LICENSES)  # which setuptools puts beside what the wheel says of itself
     project = (TOP / "tools/pyproject.toml").read_text() + with_programs(sources)
     (sources / "pyproject.toml").write_text(project)

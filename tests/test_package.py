@@ -193,7 +193,11 @@ def test_the_tools_run_a_study_by_the_packaged_program(kind, unpacked):
     assert out.decode() == f"ctm-tools {TABLE.version}, over {it.prefix}/lib/ctm/ctm_program, the packaged one\n"
     place = f"  Documents and examples are in {it.prefix}/share/doc/ctm\n"
     assert (place in it.call("ctm-tools", "--help")[1].decode()) == (kind == "deb"), "the wheel has none"
-    status, out, err = it.call("ctm-tools", "run", str(TOP / "examples/bottleneck.toml"))
+    shutil.rmtree(it.home / "own", ignore_errors=True)
+    status, out, err = it.call("ctm-tools", "examples", "own")
+    copied = {str(path.relative_to(it.home / "own")) for path in (it.home / "own").rglob("*") if path.is_file()}
+    assert status == 0 and {f"examples/{name}" for name in copied} == {*tracked("examples")} - {"examples/check"}, err
+    status, out, err = it.call("ctm-tools", "run", "own/bottleneck.toml")
     assert status == 0 and b"Delay     461.25 vehicle-hours" in out, err
     assert it.call("ctm-tools", "plot", "queue", "bottleneck.report")[0] == 0
     assert (it.home / "bottleneck-queue.png").read_bytes().startswith(b"\x89PNG")

@@ -20,7 +20,8 @@ from .problem import Interrupted
 from .program.calls import documents, found_program, keep_folders_from_root
 from .program.interrupt import INTERRUPTS, STATUS, heeded
 
-COMMANDS = {"build": "Make the network file of a study.", "run": "Run a study or a network, and print its page.",
+COMMANDS = {"new": "Write a study to begin with.", "examples": "Copy the examples into a folder.",
+            "build": "Make the network file of a study.", "run": "Run a study or a network, and print its page.",
             "lint": "Explain the first fault of a network file, or warn.",
             "table": "Write a report as a tidy table, CSV.",
             "travel-time": "Tell the travel times along a road or a route.", "plot": "Draw a report.",

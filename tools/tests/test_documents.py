@@ -12,7 +12,7 @@ from .examples import TOOLS
 TOP = TOOLS.parent
 COMMANDS_IN = {"docs/TUTORIAL.md": 9, "docs/how-to/signals.md": 2, "docs/how-to/closures.md": 4, "docs/how-to/sumo.md": 3,
                "docs/how-to/detectors.md": 3, "docs/how-to/how-sure.md": 1, "docs/how-to/other-ways.md": 2,
-               "docs/how-to/fast.md": 1, "README.md": 16, "tools/README.md": 7, "examples/README.md": 18, "tools/docs/measures.md": 6,
+               "docs/how-to/fast.md": 1, "README.md": 16, "tools/README.md": 9, "examples/README.md": 18, "tools/docs/measures.md": 6,
                "tools/docs/networks.md": 1, "tools/docs/calibration.md": 0, "tools/docs/saved.md": 6,
                "tools/docs/plans.md": 2, "tools/docs/pages.md": 3, "tools/docs/counts.md": 0, "tools/docs/detectors.md": 1, "tools/docs/queues.md": 0, "tools/docs/sweeps.md": 1,
                "tools/docs/python.md": 0, "tools/docs/units.md": 0, "tools/docs/uncertainty.md": 1, "tools/docs/routes.md": 2,
@@ -54,7 +54,7 @@ LEFT_OUT = {
 }
 
 # What stands for what a reader puts in.
-GIVEN = {"STUDY.toml": "examples/bottleneck.toml", "NET.csv": "bottleneck.csv", "PICTURE": "time-space",
+GIVEN = {"FILE.toml": "written.toml", "FOLDER": "copied", "STUDY.toml": "examples/bottleneck.toml", "NET.csv": "bottleneck.csv", "PICTURE": "time-space",
          "REPORT": "bottleneck.report", "A B": "bottleneck.report bottleneck.report", "KEY=VALUES": "demand=0.9,1",
          "MAP.osm": "examples/lane-drop.osm"}
 

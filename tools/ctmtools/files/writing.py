@@ -7,6 +7,7 @@ import fcntl
 import glob
 import io
 import os
+import shutil
 import stat
 import tempfile
 from collections.abc import Iterable, Iterator, Sequence
@@ -41,6 +42,43 @@ def write(path: str | Path, content: str | bytes, lasting: bool = False) -> None
             raise Problem(f"{path}: {reason(error)}") from None
     else:
         replace(path, content, lasting)
+
+
+def create(path: Path, content: str) -> None:
+    """Writes text to a new file as a whole, over nothing: where something stands there already, that is the problem."""
+    try:
+        file, name = _new_beside(path)
+        with file:
+            os.fchmod(file.fileno(), _rights(path))
+            file.write(content.encode())
+            file.flush()
+            try:
+                os.link(name, path)  # which fails where something has the name
+            finally:
+                os.unlink(name)
+    except FileExistsError:
+        raise Problem(f"{path}: stands there already; nothing was written") from None
+    except OSError as error:
+        raise Problem(f"{path}: {reason(error)}") from None
+
+
+def copy_folder(source: Path, target: Path, paths: Iterable[Path]) -> None:
+    """Copies files of a folder, by their paths within it, into a new or empty one, which has all of them or isn't there."""
+    made = None
+    try:
+        made = Path(tempfile.mkdtemp(prefix=f".{target.name[:MOST_NAME]}.ctm-", dir=target.parent))
+        for path in paths:
+            (made / path).parent.mkdir(exist_ok=True, parents=True)
+            shutil.copyfile(source / path, made / path)
+        made.chmod(0o777 & ~_mask())
+        os.rename(made, target)  # which fails where something stands in the folder
+        made = None
+    except OSError as error:
+        there = target.exists() or target.is_symlink()
+        raise Problem(f"{target}: stands there already; nothing was written" if there else f"{target}: {reason(error)}") from None
+    finally:
+        if made:
+            shutil.rmtree(made, ignore_errors=True)
 
 
 def replace(path: str | Path, content: bytes, lasting: bool = True) -> None:
@@ -129,9 +167,13 @@ def _rights(target: Path) -> int:
     """The rights of a file that is written over, or those that a new one gets."""
     if target.exists():
         return stat.S_IMODE(target.stat().st_mode)
+    return 0o666 & ~_mask()
+
+
+def _mask() -> int:
     mask = os.umask(0)
     os.umask(mask)
-    return 0o666 & ~mask
+    return mask
 
 
 def beside(path: str | Path, other: str | Path) -> str:

@@ -82,8 +82,14 @@ def of_the_package(name: str) -> Path | None:
 
 
 def documents() -> Path | None:
-    """The folder of documents and examples of the package in which the tools are, where it has them."""
-    return next((path for lib in _libs() if (path := lib.parent / "share/doc/ctm").is_dir()), None)
+    """The folder of documents and examples of the package in which the tools are, where it has both."""
+    return next((path for lib in _libs() if ((path := lib.parent / "share/doc/ctm") / "docs").is_dir()), None)
+
+
+def examples() -> Path | None:
+    """The folder of examples of the repository or the package in which the tools are, where it has them."""
+    folders = [TOP / "examples", *(lib.parent / "share/doc/ctm/examples" for lib in _libs())]
+    return next((folder for folder in folders if (folder / "bottleneck.toml").is_file()), None)
 
 
 def _libs() -> list[Path]:
