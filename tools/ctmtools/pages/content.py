@@ -5,6 +5,7 @@ from __future__ import annotations
 import datetime
 import subprocess
 from collections.abc import Sequence
+from functools import lru_cache
 from importlib import import_module
 from pathlib import Path
 from typing import Any
@@ -32,12 +33,14 @@ SHOWN = {"density": ("vehicles/km", "vehicles in a cell"), "flow": ("vehicles/h"
          "speed": ("km/h", "cells in a step"), "place": ("km", "cell")}
 
 
-def data_of(reports: Sequence[Report], background: Background | None = None, draws: Path | None = None) -> dict[str, Any]:
+def data_of(reports: Sequence[Report], background: Background | None = None, draws: Path | None = None,
+            names: Sequence[str] | None = None) -> dict[str, Any]:
     """What the page shows: networks, and for each report its frames, the tables, and where the page opens.
 
-    `draws` is the folder of draws of a report's network, by default one that stands beside a report.
+    `draws` is the folder of draws of a report's network, by default one that stands beside a report. `names` are what the reports
+    are called, by default as `compare` calls them.
     """
-    first, names = reports[0], names_of(reports)
+    first, names = reports[0], names or names_of(reports)
     _need_alike(reports)
     bounds, measured = bounds_of(reports), all(map(is_measured, reports))
     frames = [Frames(report, bounds, measured) for report in reports]
@@ -137,6 +140,7 @@ def provenance(reports: Sequence[Report]) -> str:
     return f"{'; '.join(map(_study, reports))}. Page made on {datetime.date.today().isoformat()} by {version()}."
 
 
+@lru_cache(maxsize=None)
 def version() -> str:
     """The version and the commit of these tools, as `ctm --version` has them: of their repository, or of their package."""
     built = of_the_package("BUILD")

@@ -4,7 +4,9 @@ const frames = data.times.length - 1;
 const PARTS = 65535;  // the number that stands for the most of a cell
 const LEAST_PARTS = 100;  // a cell that holds fewer has no speed, since rounding would show in it
 
+// The bytes that a text spells; a page that is live has them as they are.
 function bytesOf(text) {
+  if (typeof text !== "string") return text;
   const letters = atob(text), bytes = new Uint8Array(letters.length);
   for (let i = 0; i < letters.length; i++) bytes[i] = letters.charCodeAt(i);
   return bytes;

@@ -70,7 +70,7 @@ class Study:
     """
 
     def __init__(self, keys: Mapping[str, object] | None = None, path: str | Path | None = None, **more: Unpack[StudyKeys]) -> None:
-        values = {name: _plain(value, name) for name, value in {**(keys or {}), **more}.items() if value is not None}
+        values = {name: plain(value, name) for name, value in {**(keys or {}), **more}.items() if value is not None}
         self._begin(study_text({name: _rows(value) for name, value in values.items()}), path)
 
     def _begin(self, text: str, path: str | Path | None) -> None:
@@ -125,21 +125,7 @@ class Study:
         A key of `changes` is spelled as `sweep` has it: `roads.m.lanes`, `signals.offset` (of all signals), `signals.2.offset`,
         and `demand` or `demand.GATE`, by which demands are multiplied.
         """
-        import tomlkit
-
-        document = tomlkit.parse(self.text)
-        for key, value in {**(changes or {}), **keys}.items():
-            gate = gate_of_factor(key)
-            if gate is not None:
-                _multiply(document, gate, _factor(value, key))
-                continue
-            for table, name in list(places(document, key)):
-                if value is None:
-                    if table.pop(name, None) is None:
-                        raise NoSuchKey(f"{key}: the study has no {name} there")
-                else:
-                    table[name] = _item(_plain(value, key))
-        return Study.of_text(tomlkit.dumps(document), self.path)
+        return Study.of_text(changed_text(self.text, {**(changes or {}), **keys}), self.path)
 
     def to_toml(self) -> str:
         """The text of its file, as it was read, with its comments."""
@@ -177,7 +163,29 @@ def scenario_from(source: StudySource | Scenario) -> Scenario:
     return source if isinstance(source, Scenario) else study_from(source).scenario
 
 
-def _plain(value: object, key: str) -> Any:
+def changed_text(text: str, changes: Mapping[str, object]) -> str:
+    """The text of a study with some keys set, or taken away where None stands for them; its comments are kept.
+
+    It isn't looked at whether the study may have these values.
+    """
+    import tomlkit
+
+    document = tomlkit.parse(text)
+    for key, value in changes.items():
+        gate = gate_of_factor(key)
+        if gate is not None:
+            _multiply(document, gate, _factor(value, key))
+            continue
+        for table, name in list(places(document, key)):
+            if value is None:
+                if table.pop(name, None) is None:
+                    raise NoSuchKey(f"{key}: the study has no {name} there")
+            else:
+                table[name] = item(plain(value, key))
+    return tomlkit.dumps(document)
+
+
+def plain(value: object, key: str) -> Any:
     """A value as a study file may have it: decimal numbers as exact fractions, mappings as tables, sequences as lists."""
     if isinstance(value, (str, bool, Fraction, datetime.date, datetime.time)):
         return value
@@ -186,9 +194,9 @@ def _plain(value: object, key: str) -> Any:
     if isinstance(value, numbers.Real) and isfinite(value):
         return exact(str(value))
     if isinstance(value, Mapping):
-        return {str(name): _plain(one, f"{key}.{name}") for name, one in value.items()}
+        return {str(name): plain(one, f"{key}.{name}") for name, one in value.items()}
     if isinstance(value, Iterable):  # as an array of numpy too
-        return [_plain(one, f"{key}[{i}]") for i, one in enumerate(value, 1)]
+        return [plain(one, f"{key}[{i}]") for i, one in enumerate(value, 1)]
     raise Problem(f"{key}: expected a number, a text, a time, a table or a list, found {visible(repr(value))}")
 
 
@@ -197,14 +205,14 @@ def _rows(value: Any) -> Any:
     return Rows(value) if isinstance(value, list) and value and not isinstance(value[0], dict) else value
 
 
-def _item(value: Any) -> Any:
+def item(value: Any) -> Any:
     """A value as tomlkit has it: tables, and lists of them, with lines of their own."""
     import tomlkit
 
     if isinstance(value, list) and value and all(isinstance(one, dict) for one in value):
         tables = tomlkit.aot()
         for one in value:
-            tables.append(_item(one))
+            tables.append(item(one))
         return tables
     if isinstance(value, dict):
         table = tomlkit.table()
@@ -215,7 +223,7 @@ def _item(value: Any) -> Any:
 
 
 def _factor(value: object, key: str) -> Fraction:
-    factor = _plain(value, key)
+    factor = plain(value, key)
     if isinstance(factor, bool) or not isinstance(factor, (int, Fraction)) or factor < 0:
         raise Problem(f"{key}: expected a factor, 0 or more, found {shown(factor)}")
     return Fraction(factor)

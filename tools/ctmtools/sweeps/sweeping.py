@@ -31,20 +31,24 @@ BEHIND = (*MEASURES, "rounded", "error", "fingerprint")
 
 
 def measure(task: Task) -> dict[str, Any]:
-    """The measures of a task's run, by name, and what of it was rounded.
+    """The measures of a task's run, by name, and what of it was rounded."""
+    run = ran(study(task), task)
+    return {**measures_of(run.report), "rounded": run.notes}
+
+
+def measures_of(report: Report) -> dict[str, float]:
+    """The measures of a report, by name.
 
     Delay is in vehicle-hours, the longest queue in km of whole cells, most waiting are the vehicles that waited at once
     in one queue, on roads and in gates, the travel time is the mean of the longest route from a gate, with the wait in
     it, of those who have arrived. Waiting upstream are the most vehicles in a gate behind a queue that reached the upstream end
     of the model, which is longer than told. The rest is in vehicles at the end.
     """
-    run = ran(study(task), task)
-    report = run.report
     travel_time = _travel_time(report)  # first, since it reads all records
     queues = queues_in(report)
     values = (report.units.hours(report.sums.delay), *_greatest(queues), report.sums.left, report.sums.inside,
               travel_time, waiting_upstream(report, queues))
-    return {**dict(zip(MEASURES, map(float, values))), "rounded": run.notes}
+    return dict(zip(MEASURES, map(float, values)))
 
 
 def _greatest(queues: Sequence[Queue]) -> tuple[float, float]:
