@@ -41,6 +41,10 @@ def _day(value: Any, place: schema.Place) -> None:
 
 GROUP = schema.record({"name": schema.text, "line": schema.text, "cells": schema.list_of(schema.text),
                        "all_cells": schema.list_of(schema.text), "saturation": schema.above(0)})
+MOVEMENT = schema.record({"into": schema.text, "cells": schema.list_of(schema.text), "line": schema.text, "control": schema.text,
+                          "lanes": schema.whole(1), "beside": schema.list_of(schema.text), "saturation": schema.above(0)},
+                         {"room": schema.above(0)})
+APPROACH = schema.record({"name": schema.text, "road": schema.text, "last": schema.text, "movements": schema.list_of(MOVEMENT)})
 LOSS = schema.record({"name": schema.text, "vehicles": schema.number, "hours": schema.number, "full": schema.whole(0)})
 CHECKSUMS = ("network_checksum", "report_checksum", "report_network", "ways_checksum", "ways_network")
 FILE = schema.record({}, {
@@ -48,6 +52,7 @@ FILE = schema.record({}, {
     "cells": schema.table_of(_cell), "roads": schema.table_of(schema.list_of(schema.text, least=1)),
     "points": schema.table_of(schema.list_of(schema.list_of(schema.number, 2))), "cycles": schema.table_of(schema.whole(1)),
     "crs": schema.text, "steps": schema.whole(0), "ways_interval": schema.whole(1), "yield_interval": schema.whole(1),
+    "within": schema.table_of(schema.text), "approaches": schema.list_of(APPROACH),
     "lane_groups": schema.list_of(GROUP), "giving_way": schema.list_of(LOSS), **dict.fromkeys(CHECKSUMS, schema.text)}, is_open=True)
 
 
@@ -95,6 +100,34 @@ class LaneGroup:
 
 
 @dataclass(frozen=True)
+class ApproachMovement:
+    """A movement of an approach: where it leads, its cells behind the approach, and at which cell's end its signal stands.
+
+    `control` is "signal", "permitted", "stop" or "roundabout", empty where nothing holds it up, and `line` is empty without a
+    signal. Its `lanes` are shared by the cells `beside` and pass `saturation` vehicles/h in green. A pocket has `room` for so many.
+    """
+
+    into: str
+    cells: list[str]
+    line: str
+    control: str
+    lanes: int
+    beside: list[str]
+    saturation: float
+    room: float | None = None
+
+
+@dataclass(frozen=True)
+class Approach:
+    """An approach of a junction or a stop line: its name, its road or gate, the last cell that all share, and its movements."""
+
+    name: str
+    road: str
+    last: str
+    movements: list[ApproachMovement]
+
+
+@dataclass(frozen=True)
 class Loss:
     """What vehicles that give way lose by coming at random: how many do where no queue stands, in vehicle-hours.
 
@@ -127,7 +160,8 @@ class Units:
     where it isn't known; `date` is the day of that midnight, where the study says it. `cells` has for each road cell `road`, `from_km`, `to_km`, `lanes`, `free_flow_kmh`,
     `wave_kmh`; `roads` has for each road its cells in the direction of travel, and `points` where they are given, in km of
     the coordinate system `crs`, where that is known. `cycles` has the cycle in steps of each signal that the network has as
-    limits, by the cell or the gate of its stop line. `network`, `report` and `ways` are the files that they belong to.
+    limits, by the cell or the gate of its stop line. `approaches` are those of junctions and stop lines, and `within` has for each cell
+    that a junction made the road that it belongs to. `network`, `report` and `ways` are the files that they belong to.
     """
 
     title: str = ""
@@ -143,6 +177,8 @@ class Units:
     report: OfReport = OfReport()
     ways: OfWays = OfWays()
     at_random: AtRandom = field(default_factory=AtRandom)
+    within: dict[str, str] = field(default_factory=dict)
+    approaches: list[Approach] = field(default_factory=list)
 
     @property
     def known(self) -> bool:
@@ -160,6 +196,11 @@ class Units:
         yield from self.cycles
         for group in self.at_random.lane_groups:
             yield from (group.line, *group.cells, *group.all_cells)
+        yield from self.within
+        for approach in self.approaches:
+            yield approach.last
+            for one in approach.movements:
+                yield from (*one.cells, *filter(None, [one.line]), *one.beside)
 
     def hours(self, vehicle_steps: Amount) -> Amount:
         """Vehicle-steps as vehicle-hours, or as they are where the step isn't known."""
@@ -265,7 +306,12 @@ def _units_of(values: Any) -> Units:
         report=OfReport(said("report_checksum"), said("report_network")),
         ways=OfWays(said("ways_checksum"), said("ways_network"), said("ways_interval")),
         at_random=AtRandom(said("yield_interval"), [LaneGroup(**row) for row in said("lane_groups", [])],
-                           [Loss(**row) for row in said("giving_way", [])]))
+                           [Loss(**row) for row in said("giving_way", [])]),
+        within=said("within", {}), approaches=[_approach(row) for row in said("approaches", [])])
+
+
+def _approach(row: dict[str, Any]) -> Approach:
+    return Approach(row["name"], row["road"], row["last"], [ApproachMovement(**one) for one in row["movements"]])
 
 
 def units_text(units: Units) -> str:
@@ -277,13 +323,20 @@ def units_text(units: Units) -> str:
               "steps": network.steps, "network_checksum": network.checksum, "report_checksum": report.checksum,
               "report_network": report.network, "ways_checksum": ways.checksum, "ways_network": ways.network,
               "ways_interval": ways.interval, "roads": units.roads, "points": units.points, "cycles": units.cycles, "crs": units.crs,
-              "yield_interval": at_random["interval"], "lane_groups": at_random["lane_groups"], "giving_way": at_random["giving_way"]}
+              "yield_interval": at_random["interval"], "lane_groups": at_random["lane_groups"], "giving_way": at_random["giving_way"],
+              "within": units.within, "approaches": [_approach_row(one) for one in units.approaches]}
     head = {key: value for key, value in values.items() if value not in (None, {}, [], "")}
     head[KEY] = sealed({**head, **({"cells": units.cells} if cells else {})})[KEY]
     lines = [f"  {json.dumps(key)}: {json.dumps(value)}" for key, value in head.items()]
     if cells:
         lines.append('  "cells": {\n' + cells + "\n  }")
     return "{\n" + ",\n".join(lines) + "\n}\n"
+
+
+def _approach_row(approach: Approach) -> dict[str, Any]:
+    """An approach as the file has it, which says no room where there is no pocket."""
+    row = asdict(approach)
+    return {**row, "movements": [{key: value for key, value in one.items() if value is not None} for one in row["movements"]]}
 
 
 def cell_of(road: str, units: Units, at: float | None = None) -> str:

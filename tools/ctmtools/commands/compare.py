@@ -7,7 +7,9 @@ from typing import TYPE_CHECKING
 
 import click
 
+from ..approaches.by_approach import compared
 from ..assignment.comparing import pair_changes
+from ..exports.table_file import kind_of, table_bytes
 from ..files.writing import write
 from ..report.comparability import mismatches, names_of, other_lanes_and_speeds
 from ..report.comparing import compare, part_of, totals, travel
@@ -27,12 +29,14 @@ EPILOG = """\b
 Examples:
   ctm-tools compare arterial-0.report arterial-wave.report
   ctm-tools compare plan-a.report plan-b.report --plot difference.png
+  ctm-tools compare plan-a.report plan-b.report --by movement -o movements.xlsx
   ctm-tools compare plan-a.report plan-b.report -o cells.csv --value-of-time 12
 
 Where ways that `assign` wrote stand beside both, it is told by pair who gained and who lost.
 
 With --plot both reports need records, and the cells of the route are those that both have."""
 
+LEAST_WAIT = 0.05  # s of control delay, by which an approach has to differ to be told
 MOST_ROADS = 6  # so many roads are told with their travel time
 
 
@@ -41,13 +45,16 @@ MOST_ROADS = 6  # so many roads are told with their travel time
 @click.argument("second", metavar="B", type=click.Path())
 @click.option("--rows", default=10, show_default=True, type=click.IntRange(0), help="How many cells are told.")
 @FORCE
-@click.option("-o", "--output", metavar="FILE.csv", type=OUTPUT_FILE, help="Write the rows of all cells there.")
+@click.option("-o", "--output", metavar="FILE", type=OUTPUT_FILE,
+              help="Write the rows of all cells there, or of all of --by: a workbook, FILE.xlsx, Parquet, else CSV.")
+@click.option("--by", type=click.Choice(["cell", "approach", "movement"]), default="cell", show_default=True,
+              help="What a row of -o is of.")
 @click.option("--plot", "picture", metavar="FILE.png|svg", type=OUTPUT_FILE,
               help="Draw the difference of the densities, B less A, as a time-space diagram.")
 @click.option("--road", metavar="ROAD", help="The road to draw; else the longest route.")
 @click.option("--value-of-time", metavar="MONEY", type=Finite(0), help="What an hour of delay costs.")
 @on_reports
-def command(first: str, second: str, rows: int, output: str | None, picture: str | None, road: str | None,
+def command(first: str, second: str, rows: int, output: str | None, by: str, picture: str | None, road: str | None,
             value_of_time: float | None, units: str | None, network: str | None) -> None:
     """Compare two reports: delay, vehicles that left and travel times, the greatest changes first.
 
@@ -70,7 +77,7 @@ def command(first: str, second: str, rows: int, output: str | None, picture: str
         of = {"delay": f", {unit}", "cost of the delay": ""}.get(str(name), ", vehicles")
         lines.append((f"{name}{of}", number_text(row["first"]), number_text(row["second"]), signed(row.rise), change))
     tell(*table(lines, right=(1, 2, 3, 4)))
-    for line in [*_at_random(one, two), *_travel(travel(one, two)), *pair_changes(one, two)]:
+    for line in [*_at_random(one, two), *_approaches(one, two, rows), *_travel(travel(one, two)), *pair_changes(one, two)]:
         tell(line)
     changed = frame[(frame.delay_rise.abs() >= 0.005) | (frame.left_rise.abs() >= 0.005)]
     if changed.empty:
@@ -84,13 +91,20 @@ def command(first: str, second: str, rows: int, output: str | None, picture: str
                  for cell, row in changed[:rows].iterrows()]
         tell(*table([heads, *cells], right=range(1, 7)))
     if output:
-        write(output, frame_text(frame, float_format="%.6f"))
+        _write(output, frame if by == "cell" else compared(one, two, by))
     if picture:
         from ..plots.difference import draw
         from ..plots.figure import save, target
 
         save(draw(one, two, road), target(two, "difference", picture))
         tell("", str(picture))
+
+
+def _write(output: str, frame: pandas.DataFrame) -> None:
+    """Writes the rows by the ending of the file's name."""
+    rows = frame.reset_index()
+    rows.attrs = frame.attrs
+    write(output, table_bytes(rows, output) if kind_of(output) else frame_text(frame, float_format="%.6f"))
 
 
 def _at_random(first: Report, second: Report) -> Iterator[str]:
@@ -102,6 +116,22 @@ def _at_random(first: Report, second: Report) -> Iterator[str]:
     rows = [(where, f"{one[where]:,.2f}", f"{two[where]:,.2f}", signed(two[where] - one[where])) for where in one
             if one[where] or two[where]]
     yield from table([("", "A", "B", "B - A"), *rows], right=(1, 2, 3))
+
+
+def _approaches(first: Report, second: Report, rows: int) -> Iterator[str]:
+    """The approaches whose control delay differs."""
+    if not all(report.recorded and report.network and report.units.known and report.units.approaches for report in (first, second)):
+        return
+    frame = compared(first, second)
+    changed = frame[(frame.delay_each_rise.abs() >= LEAST_WAIT) | (frame.level_first != frame.level_second)]
+    if changed.empty:
+        return
+    yield from ("", f"Control delay of each vehicle in s, level of service and demand by capacity, {min(rows, len(changed))} of "
+                f"{len(changed)} approaches that differ:", "")
+    lines = [(name, f"{row.delay_each_first:,.1f}", f"{row.delay_each_second:,.1f}", signed(round(row.delay_each_rise, 1)),
+              f"{row.level_first} {row.level_second}", f"{row.ratio_first:.2f}", f"{row.ratio_second:.2f}")
+             for name, row in changed[:rows].iterrows()]
+    yield from table([("approach", "A", "B", "B - A", "level A B", "d/c A", "d/c B"), *lines], right=(1, 2, 3, 5, 6))
 
 
 def _travel(frame: pandas.DataFrame) -> Iterator[str]:

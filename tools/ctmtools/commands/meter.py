@@ -13,7 +13,7 @@ import click
 
 from ..files.writing import write
 from ..problem import Interrupted, Problem
-from ..report.by_road import roads_and_gates
+from ..report.routes import roads_and_gates
 from ..report.comparing import side_by_side
 from ..report.reading import Report
 from ..report.summary import number_text, where

@@ -1,2 +1,2 @@
-# Imports plots, report, study, texts, units
+# Imports approaches, plots, report, study, texts, units
 """Reports in the formats of other programs."""

@@ -1,4 +1,4 @@
-"""A report as GeoJSON, for QGIS and others: a line for each cell, with what left it and its delay, in all or by time."""
+"""A report as GeoJSON, for QGIS and others: a line for each cell, or a point for each approach, in all or by time."""
 
 from __future__ import annotations
 
@@ -8,6 +8,7 @@ from typing import Any
 import numpy
 import pandas
 
+from ..approaches.by_approach import by_approach
 from ..plots.layout import Line, lay_out
 from ..problem import Problem
 from ..report.measures import hour_of, measured
@@ -40,6 +41,26 @@ def collection(report: Report, every: float | None = None) -> dict[str, Any]:
              **{name: known[name] for name in ("flow", "density", "speed")}}
     return {"type": "FeatureCollection", "name": report.title, "units": named,
             "features": list(features(report, every))}
+
+
+def by_service(report: Report, every: float | None = None, by: str = "approach") -> dict[str, Any]:
+    """A point at the stop line of each approach, or for each movement, with what `table` has of it, as a collection."""
+    frame = by_approach(report, every, by)
+    lines = _located(report, lay_out(report))
+    at = {approach.name: lines[approach.last][-1] for approach in report.units.approaches}
+    begins = sorted(set(frame.step))
+    ends = dict(zip(begins, [*begins[1:], report.steps]))
+    rows = [_service(report, row, at, ends) for row in frame.drop(columns="time").to_dict("records")]
+    return {"type": "FeatureCollection", "name": report.title,
+            "units": {"coordinates": coordinates_of(report), **frame.attrs["units"]}, "features": rows}
+
+
+def _service(report: Report, row: dict[str, Any], at: Mapping[str, list[float]], ends: Mapping[int, int]) -> Feature:
+    """The feature of a row of an approach, without what isn't known of it."""
+    step = row.pop("step")
+    terms = {key: value for key, value in row.items() if value == value and value not in (float("inf"), "")}
+    span = {"begin": _time(report, step), "end": _time(report, ends[step])}
+    return {"type": "Feature", "geometry": {"type": "Point", "coordinates": at[row["approach"]]}, "properties": {**terms, **span}}
 
 
 def coordinates_of(report: Report) -> str:

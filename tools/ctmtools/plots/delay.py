@@ -9,6 +9,7 @@ from matplotlib.axes import Axes
 from matplotlib.figure import Figure
 
 from ..report.reading import Report
+from ..report.routes import roads_of
 from .figure import drawing, figure, head, note
 from .labels import Label, Place, write
 
@@ -84,7 +85,7 @@ def _groups(report: Report, delay: pandas.Series) -> tuple[list[tuple[str, list[
     kinds = {} if report.network is None else report.network.kinds
     rest = [cell for cell in report.cells.index if cell not in units.cells]
     if units.roads:
-        groups = [(f"road {road}", list(cells)) for road, cells in units.roads.items()]
+        groups = [(f"road {road}", list(cells)) for road, cells in roads_of(report).items()]
     else:
         groups = [("cells", [cell for cell in rest if kinds.get(cell, "road") == "road"])]
     gates = [cell for cell in rest if kinds.get(cell) == "gate" and delay[cell] > 0]

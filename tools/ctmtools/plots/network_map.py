@@ -13,6 +13,7 @@ from matplotlib.patheffects import withStroke
 
 from ..arrays import Numbers
 from ..report.reading import Report
+from ..report.routes import roads_of
 from .figure import DENSITY, drawing, figure, head
 from .labels import Label, Place, write
 from .layout import Line, lay_out
@@ -88,8 +89,9 @@ def _names(axes: Axes, report: Report, lines: Mapping[str, Line], delay: pandas.
     for cell, kind in report.need_network().kinds.items():
         if kind != "road":
             labels.append((delay[cell], _end_label(report, lines, cell, delay[cell])))
-    for road, cells in report.units.roads.items():
-        labels.append((delay[cells].sum(), _road_label(f"road {road}", lines[cells[len(cells) // 2]])))
+    for road, cells in roads_of(report).items():
+        own = report.units.roads[road]
+        labels.append((delay[cells].sum(), _road_label(f"road {road}", lines[own[len(own) // 2]])))
     labels.sort(key=lambda row: -float(row[0]))
     return len(write(axes, [label for _, label in labels], shunned=_points(axes, lines, widths)))
 

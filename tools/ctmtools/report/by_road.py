@@ -13,6 +13,7 @@ from ..units import MILE_KM
 from .measures import hour_of, measured_together
 from .queues import stands
 from .reading import Report
+from .routes import ends_of, roads_and_gates
 from .states import times
 from .summary import where
 
@@ -42,12 +43,6 @@ def bounds_of(report: Report, every: float | None) -> list[int]:
     wanted = numpy.arange(0, report.steps + width, width)
     found = [int(report.times[min(place, len(report.times) - 1)]) for place in numpy.searchsorted(report.times, wanted)]
     return sorted(set(found))
-
-
-def roads_and_gates(report: Report) -> dict[str, list[str]]:
-    """The cells of each road, and each gate."""
-    kinds = report.need_network().kinds
-    return {**report.units.roads, **{f"gate {cell}": [cell] for cell, kind in kinds.items() if kind == "gate"}}
 
 
 def ramps(report: Report) -> dict[str, list[str]]:
@@ -111,7 +106,7 @@ def _rows(report: Report, bounds: Sequence[int], cells: Sequence[str], lengths: 
     lanes = numpy.array([(units.cells.get(cell) or {}).get("lanes", 1) for cell in cells])
     found = measured_together(report, bounds, cells, lanes, own)
     rows, steps = numpy.searchsorted(report.times, bounds), numpy.diff(bounds)
-    left = numpy.add.reduceat(report.passed[:, places[-1]], rows[:-1])
+    left = numpy.add.reduceat(report.passed[:, report.places(ends_of(report, cells))].sum(axis=1), rows[:-1])
     delay = numpy.add.reduceat(report.waited[:, places].sum(axis=1), rows[:-1])
     reach = numpy.maximum.reduceat(queued[:, places] @ numpy.nan_to_num(own), rows[:-1])
     with numpy.errstate(invalid="ignore", divide="ignore"):

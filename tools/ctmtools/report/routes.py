@@ -2,7 +2,7 @@
 
 from __future__ import annotations
 
-from collections.abc import Sequence
+from collections.abc import Mapping, Sequence
 
 from ..network_file.network import Network
 from ..problem import Problem
@@ -83,3 +83,46 @@ def kilometres(report: Report, cells: Sequence[str]) -> tuple[list[float], bool]
     for length in lengths:
         bounds.append(bounds[-1] + (length if known and length else 1))
     return bounds, known
+
+
+def roads_of(report: Report) -> dict[str, list[str]]:
+    """The cells of each road, with those that junctions made before its stop line and behind its beginning."""
+    made, units = _made(report), report.units
+    return {road: [*cells, *made.get(road, ())] for road, cells in units.roads.items() if cells[0] not in units.within}
+
+
+def _made(report: Report) -> dict[str, list[str]]:
+    """The cells that junctions made, by the road or the gate that they belong to."""
+    found: dict[str, list[str]] = {}
+    for cell, road in report.units.within.items():
+        found.setdefault(road, []).append(cell)
+    return found
+
+
+def roads_and_gates(report: Report) -> dict[str, list[str]]:
+    """The cells of each road, as `roads_of` has them, and each gate."""
+    made = _made(report)
+    gates = {f"gate {cell}": [cell, *made.get(cell, ())] for cell, kind in report.need_network().kinds.items() if kind == "gate"}
+    return {**roads_of(report), **gates}
+
+
+def ends_of(report: Report, cells: Sequence[str]) -> list[str]:
+    """The cells by which one leaves a part: the last one, or those of the movements behind it."""
+    within = report.units.within
+    if not any(cell in within for cell in cells):
+        return [cells[-1]]
+    own, downs = set(cells), report.need_network().downs
+    last = next((cell for cell in reversed(cells) if cell not in within), cells[-1])
+    found = [cell for cell in cells if cell in within and cell not in _before(downs, last, own) and not own.intersection(downs[cell])]
+    return found or [last]
+
+
+def _before(downs: Mapping[str, Mapping[str, int]], last: str, own: set[str]) -> set[str]:
+    """The cells of a part that one doesn't come to from its last cell: those that join movements where it begins."""
+    seen, waiting = {last}, [last]
+    while waiting:
+        for down in downs[waiting.pop()]:
+            if down in own and down not in seen:
+                seen.add(down)
+                waiting.append(down)
+    return own - seen

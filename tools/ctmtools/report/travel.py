@@ -149,8 +149,8 @@ def road_times(report: Report) -> list[RoadTime]:
 
     Those who are still on the road at the end aren't counted. Where the units name no roads there is none.
     """
-    found = []
-    for road, cells in report.units.roads.items():
+    found, within = [], report.units.within
+    for road, cells in ((road, cells) for road, cells in report.units.roads.items() if cells[0] not in within):
         driven = trips(report, cells)
         driven = driven.of(~numpy.isnan(driven.steps))
         if len(driven.steps):

@@ -17,6 +17,7 @@ from ..texts.amounts import PARTS, rounded_parts
 from ..texts.quantities import HOUR
 from ..units import Units, clock_text
 from ..visible import visible
+from .approaches import note_approaches
 from .junctions import Junctions
 from .layout import Layout, RoadCell, Stretch
 from .limits import Limits
@@ -188,6 +189,7 @@ class Builder:
                 units.cells[cell.name] = {"road": road, "from_km": float(cell.start), "to_km": float(cell.end),
                                           "lanes": section.lanes, "free_flow_kmh": float(section.free_flow_speed),
                                           "wave_kmh": float(section.wave_speed)}
+        note_approaches(self.study, units)
         return units
 
 

@@ -9,7 +9,7 @@ import numpy
 
 from ..many_runs.task import Task, ran, study
 from ..problem import Problem
-from ..report.by_road import roads_and_gates
+from ..report.routes import roads_and_gates
 from ..report.queues import standing
 from ..report.reading import Report
 from ..report.travel import cell_before, chain_of, trips
