@@ -3,6 +3,7 @@
 import shutil
 import signal
 import subprocess
+import time
 from pathlib import Path
 
 TOP = Path(__file__).resolve().parents[1]
@@ -26,6 +27,14 @@ def heed_signals():
     """Whoever runs the tests may ignore signals, as nohup does, and a shell can't heed those that it finds ignored."""
     for number in signal.SIGINT, signal.SIGTERM, signal.SIGHUP:
         signal.signal(number, signal.SIG_DFL)
+
+
+def slowness():
+    """How many times as long as on a machine with nothing else to do something takes now."""
+    begun, worked = time.perf_counter(), time.process_time()
+    while time.process_time() - worked < 0.2:
+        pass
+    return max(1.0, (time.perf_counter() - begun) / 0.2)
 
 
 class Repository:

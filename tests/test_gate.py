@@ -27,7 +27,7 @@ rt: ok; handles allowed: none
 CHECKS = ["tests/plays", "tests/program", "tests/launcher", "examples/check", "tools/check"]
 MADE_RUNS = ["bench/stress-wait", "tests/fuzz"]  # over made input, as long as they run, so no list has how many there are
 # What a check does: it passes, and it tells the cases of its test file.
-PASSING = """case "$*" in *--collect-only*) printf 'test_it.py::test_%s\\n' {1..9000} ;; *) echo 9000 passed in 1.00s ;; esac"""
+PASSING = """case "$*" in *--collect-only*) printf 'test_it.py::test_%s\\n' {1..90} ;; *) echo 90 passed in 1.00s ;; esac"""
 HANDLES = "Handles allowed: Threads, Wait.\n"
 
 
@@ -109,8 +109,8 @@ def gate(tmp_path, passing_gate):
 
 def test_a_gate_that_passes_says_how_many_checks_of_each_sort_ran(gate):
     status, told = gate.run()
-    assert told[-1] == ("./check: passed: 6 crates proved, 2 edits refused, 5 tests of crates passed, 9000 of tests/plays, "
-                        "9000 of tests/program, 9000 of tests/launcher, 1 of examples/check, 9000 of tools/check")
+    assert told[-1] == ("./check: passed: 6 crates proved, 2 edits refused, 5 tests of crates passed, 90 of tests/plays, "
+                        "90 of tests/program, 90 of tests/launcher, 1 of examples/check, 90 of tools/check")
     assert status == 0
 
 
@@ -174,7 +174,7 @@ def without(gate, path, part):
     broken(lambda gate: gate.replace("crates/trials/src/lib.rt", "trial_2", "trial_two"), "-test trials lib trial_2 "),
     broken(lambda gate: without(gate, "crates/top/stdin", "steps,2\n"), "-run top stdin 2 "),
     broken(lambda gate: gate.script("tests/program", PASSING.replace("test_it.py", "test_other.py")),
-           "-cases tests/program test_it.py 9000"),
+           "-cases tests/program test_it.py 90"),
     broken(lambda gate: os.remove(gate.top / "examples/one.report"), "-cases examples/check 1"),
     broken(lambda gate: os.remove(gate.top / ".ci/counts.txt"), "counts.txt differs"),
     broken(lambda gate: os.remove(gate.top / "contracts.txt"), "contracts.txt differs"),
@@ -189,10 +189,10 @@ def without(gate, path, part):
       for part, check in (("small-proof", "launcher/check_small_proof"), ("contracts", ".ci/contracts"))],
     *[broken(lambda gate, check=check: gate.script(check, "echo 7 passed; exit 1"), f"{check} fails") for check in MADE_RUNS],
     broken(lambda gate: gate.script("bench/stress-wait", "echo 8 passed"), "-file bench/stress-wait "),
-    broken(lambda gate: gate.script("tests/program", PASSING.replace("9000 passed", "8999 passed")),
-           "tests/program: 8999 cases passed, and 9000 are to"),
-    broken(lambda gate: gate.script("tools/check", PASSING.replace("9000 passed", "9001 passed")),
-           "tools/check: 9001 cases passed, and 9000 are to"),
+    broken(lambda gate: gate.script("tests/program", PASSING.replace("90 passed", "89 passed")),
+           "tests/program: 89 cases passed, and 90 are to"),
+    broken(lambda gate: gate.script("tools/check", PASSING.replace("90 passed", "91 passed")),
+           "tools/check: 91 cases passed, and 90 are to"),
     broken(lambda gate: gate.script("tests/launcher", f"{PASSING}; exit 1"), "tests/launcher fails"),
     *[broken(lambda gate, left=left: gate.script("tools/check", PASSING.replace("passed", f"passed, 1 {left}")),
              "tools/check: cases were left out") for left in ("skipped", "deselected", "xfailed")],

@@ -128,8 +128,11 @@ def with_programs(jobs, **how):
 
 
 def environment(programs):
-    """A package that is missing fails the tools' tests, as it does in the gate."""
-    return {**os.environ, "CI": "true", **(programs.environment() if programs else {})}
+    """A package that is missing fails the tools' tests, as it does in the gate. No variable of Python's leads the processes among
+    which pytest shares its cases to other modules, since they aren't begun isolated.
+    """
+    around = {name: value for name, value in os.environ.items() if not name.startswith("PYTHON")}
+    return {**around, "PYTHONNOUSERSITE": "1", "CI": "true", **(programs.environment() if programs else {})}
 
 
 def tell_time(jobs):

@@ -44,7 +44,7 @@ class Run:
     def __init__(self, jobs, programs, environment, at_once=1, shows=False):
         self.waiting, self.programs, self.environment = list(jobs), programs, environment
         self.at_once, self.shows = at_once, shows
-        self.commands, self.outputs = {}, {}
+        self.begun, self.commands, self.outputs = [], {}, {}
         self.passed, self.tallies, self.worst, self.is_interrupted = [], [], 0, False
 
     def go(self):
@@ -63,7 +63,8 @@ class Run:
     def turn(self, folder):
         """Starts what may start, and finishes what has ended."""
         while self.waiting and len(self.commands) < self.at_once:
-            job = self.waiting.pop(0)
+            # A command may run before it stands among the commands, and is told where a signal ends all then.
+            self.begun.append(job := self.waiting.pop(0))
             log = folder / job.part.name
             self.commands[job] = Command(job.command(self.programs), job.part.environment(self.environment), TOP, log)
             self.outputs[job] = open(log, errors="replace")
@@ -82,6 +83,7 @@ class Run:
 
     def finish(self, job):
         command, part = self.commands.pop(job), job.part
+        self.begun.remove(job)
         said = command.said()
         self.outputs.pop(job).close()
         without = left_out_on_trials(part) if job.is_shortened(self.programs) else []
@@ -108,8 +110,7 @@ class Run:
         say(f"./check: {job.repeated()} repeats it alone")
 
     def tell_interruption(self):
-        cut = [job.part.name for job in self.commands]
-        say(f"./check: interrupted; passed: {listed(self.passed)}; broken off: {listed(cut)}; "
+        say(f"./check: interrupted; passed: {listed(self.passed)}; broken off: {listed(job.part.name for job in self.begun)}; "
             f"not begun: {listed(job.part.name for job in self.waiting)}")
 
 

@@ -9,7 +9,6 @@ import tomllib
 from fractions import Fraction
 from functools import lru_cache
 from math import ceil, exp, floor
-from pathlib import Path
 from statistics import NormalDist
 from types import SimpleNamespace as Some
 
@@ -434,7 +433,7 @@ def what_is_needed():
     yield f"On Debian {SUITES[suite]} or newer"
     yield f"`pip install ctmtools-{version}-py3-none-linux_x86_64.whl`"
     yield f"`ctm-{version}-linux-x86_64.tar.gz`"
-    yield f"Python {least} or newer, and the toolchain's `rt` (`{kit()}`)"
+    yield f"Python {least} or newer, and the toolchain's `rt` ({kits()})"
     yield f"[{floor(float(low))} to {ceil(float(high))} minutes](docs/inside/MAP.md#check-times) on four processors"
     yield f"It writes at most {most} and takes at most {minutes} minutes."
     yield f"the [Apache License {re.search(r'Version ([0-9.]+),', read('LICENSE-APACHE'))[1]}]"
@@ -448,14 +447,13 @@ def how_long_the_two_commands_take():
     yield f"[{all_} processor-minutes](docs/inside/MAP.md#check-times) of proofs"
 
 
-def kit():
-    """The name of the toolchain: that of its own file where `rt` is on the path, else the one of docs/inside/PROVED.md."""
+def kits():
+    """The names of the toolchains that prove the crates, as docs/inside/PROVED.md has them; the one on the path is among them."""
+    names, logic = re.search(r"^- The toolchain, (.*), both of `(logic \w+)`:", read("docs/inside/PROVED.md"), re.MULTILINE).groups()
     if shutil.which("rt"):
-        page = subprocess.run(["rt", "doc"], stdout=subprocess.PIPE, text=True, check=True).stdout.split()
-        found = [path for path in (Path(word).parent / "KIT-ID" for word in page) if path.is_file()]
-        if found:
-            return found[0].read_text().split()[0]
-    return re.search(r"`(rattle-kit-\w+) ", read("docs/inside/PROVED.md"))[1]
+        own, its_logic = subprocess.run(["rt", "version"], stdout=subprocess.PIPE, text=True, check=True).stdout.strip().split(" ", 1)
+        assert f"`{own}`" in names and its_logic == logic
+    return names
 
 
 @of(FIRST)

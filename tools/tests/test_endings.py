@@ -20,7 +20,7 @@ CALLS = [["--help"], ["--version"], *([name, "--help"] for name in COMMANDS), ["
 def called(words, folder, redirected, **more):
     """The status and standard error of a call whose streams a shell redirects so."""
     script = f'exec "$@" {redirected}'
-    done = subprocess.run(["bash", "-c", script, "bash", sys.executable, "-P", "-m", "ctmtools", *words], cwd=folder, timeout=60,
+    done = subprocess.run(["bash", "-c", script, "bash", sys.executable, "-P", "-m", "ctmtools", *words], cwd=folder, timeout=600,
                           stderr=subprocess.PIPE, stdin=subprocess.DEVNULL,
                           env={**os.environ, "PYTHONPATH": str(TOOLS), "CTM_PROGRAM": "/bin/true", **more})
     return done.returncode, done.stderr.decode()

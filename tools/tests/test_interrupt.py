@@ -11,6 +11,7 @@ import sys
 import time
 
 import pytest
+from launched import slowness
 
 from .examples import EXAMPLES, TOOLS
 from .test_actuated import FOLLOW, STUDY
@@ -35,14 +36,6 @@ processes.LEAVE *= patience
 command_line.main()
 """
 PATIENT = 20.0  # where it isn't asked how soon a command ends
-
-
-def slowness():
-    """How many times as long as on a machine with nothing else to do something takes now."""
-    begun, worked = time.perf_counter(), time.process_time()
-    while time.process_time() - worked < 0.2:
-        pass
-    return max(1.0, (time.perf_counter() - begun) / 0.2)
 
 
 def heeds_an_interrupt():

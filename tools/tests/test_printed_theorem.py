@@ -21,7 +21,9 @@ def site(tmp_path_factory):
 
 def test_the_page_of_run_is_printed_on_at_most_40_pages(site, tmp_path):
     paper = tmp_path / "run.pdf"
-    words = ("--headless", "--no-sandbox", "--disable-gpu", "--no-pdf-header-footer", f"--print-to-pdf={paper}")
+    # A profile of its own, since a browser that is open hands the page to the one that has the user's.
+    words = ("--headless", "--no-sandbox", "--disable-gpu", f"--user-data-dir={tmp_path}/profile", "--no-pdf-header-footer",
+             f"--print-to-pdf={paper}")
     page = site / "docs/inside/theorem/run.html"
     subprocess.run(["chromium", *words, page.as_uri()], check=True, timeout=300, stderr=subprocess.DEVNULL)
     assert 30 <= len(PAGE_OF_PAPER.findall(paper.read_bytes())) <= 40
