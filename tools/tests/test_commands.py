@@ -171,7 +171,7 @@ def test_a_missing_package_is_named(tmp_path):
     bare = tmp_path / "python3"
     bare.write_text("#!/bin/bash\necho pandas networkx\n")
     bare.chmod(0o755)
-    text = (TOOLS / "find-python").read_text().replace("python3 /usr/bin/python3 /usr/local/bin/python3", str(bare))
+    text = (TOOLS / "find-python").read_text().replace("/usr/bin/python3 python3 /usr/local/bin/python3", str(bare))
     script = tmp_path / "find-python"
     script.write_text(text)
     ended = subprocess.run(["bash", script], capture_output=True, text=True)

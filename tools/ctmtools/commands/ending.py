@@ -5,7 +5,6 @@ from __future__ import annotations
 import io
 import os
 import sys
-import traceback
 from contextlib import suppress
 from pathlib import Path
 from typing import NoReturn, TextIO
@@ -59,12 +58,16 @@ def answer(error: Exception) -> NoReturn:
         fail(f"standard output: {reason(error)}", FAILED)
     line, status = told(error)
     if status == FAILED and os.environ.get(TRACEBACK):
+        import traceback  # here and below, so that each start is faster
+
         traceback.print_exception(error)
     fail(line, status)
 
 
 def _is_of_output(error: OSError) -> bool:
     """Whether it was standard output that couldn't be written: where click prints, or at the end of a command."""
+    import traceback
+
     last = traceback.extract_tb(error.__traceback__)[-1]
     return isinstance(error, BrokenPipeError) or last.name == click.echo.__name__ or Path(last.filename) == HERE / "command_line.py"
 
@@ -92,6 +95,8 @@ def told(error: Exception) -> tuple[str, int]:
 
 def _place(error: Exception) -> str:
     """Where in the tools an error arose."""
+    import traceback
+
     frames = [frame for frame in traceback.extract_tb(error.__traceback__) if Path(frame.filename).is_relative_to(HERE)]
     return f" in {Path(frames[-1].filename).relative_to(HERE)}, line {frames[-1].lineno}" if frames else ""
 
