@@ -49,7 +49,7 @@ class Expansion:
     def made_of_cells(self) -> Scenario:
         """The study with the junction's parts, and a remark on what they take."""
         for movement in self.movements:
-            cells = f"{self._cells(self.crossing.sources[movement[0]])}-{self._cells(self.crossing.into[movement[1]], 0)}"
+            cells = f"{self._cells(self.crossing.approach(movement[0]))}-{self._cells(self.crossing.into[movement[1]], 0)}"
             self._cell(self._name(movement), cells, *self._lane(movement), self._lanes_of(movement))
         for i in range(len(self.crossing.sources)):
             self._part(i, [movement for movement in self.movements if movement[0] == i])

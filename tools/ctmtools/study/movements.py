@@ -17,12 +17,12 @@ def movements(found: Crossing) -> list[Movement]:
 
 def movement_name(found: Crossing, movement: Movement) -> str:
     """A movement as messages say it."""
-    return f"{found.sources[movement[0]]} to {found.into[movement[1]]}"
+    return f"{found.approach(movement[0])} to {found.into[movement[1]]}"
 
 
 def movement_road(found: Crossing, movement: Movement) -> str:
     """The road of one cell that a movement drives through."""
-    return f"{found.sources[movement[0]]}-{found.into[movement[1]]}"
+    return f"{found.approach(movement[0])}-{found.into[movement[1]]}"
 
 
 def movement_of(value: object, key: str, found: Crossing) -> Movement:

@@ -272,6 +272,24 @@ class Phase:
     actuation: Actuation | None = None
 
 
+@dataclass(frozen=True)
+class Pocket:
+    """Lanes of the last km of an approach in which some of its movements wait, apart from all others of it.
+
+    Without a length they begin where the approach's second cell does.
+    """
+
+    movements: list[Movement]
+    lanes: int
+    length: Fraction | None
+    place: str
+
+    @property
+    def approach(self) -> int:
+        """The number of the approach of which they are."""
+        return self.movements[0][0]
+
+
 @dataclass
 class Crossing:
     """A junction of several approaches and ways out, with turning shares, those by time, priorities and phases.
@@ -279,6 +297,9 @@ class Crossing:
     `priorities` and `lanes` are those of each movement, where they are said. The cycle begins `offset` s after the
     study's start; with a cycle of None there is no signal. Where `within` is true its cells are taken off the approaches.
     Where it goes `by_trips` the study leaves its shares out, and those here say which movements there are.
+
+    Once its `pockets` are roads, these and those of the lanes beside them are its sources, and `approaches` the roads that part into
+    them.
     """
 
     sources: list[str]
@@ -294,6 +315,12 @@ class Crossing:
     place: str
     by_trips: bool = False
     yields: list[Precedence] = field(default_factory=list)
+    pockets: list[Pocket] = field(default_factory=list)
+    approaches: list[str] = field(default_factory=list)
+
+    def approach(self, number: int) -> str:
+        """The road or the gate by which those of a source come."""
+        return self.approaches[number] if self.approaches else self.sources[number]
 
 
 @dataclass

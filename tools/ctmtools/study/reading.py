@@ -19,6 +19,7 @@ from .crossings import actuation_of, crossing
 from .entries import Entries, Reader, list_of
 from .plan import (Closure, Diverge, Exit, Flow, Gate, Merge, Meter, Opening, Road, Section, Signal, SpeedLimit,
                    Scenario, Turn)
+from .pocket_roads import with_pockets
 from .precedences import precedence_at_merge, with_merges
 from .signals import with_actuated_signals
 from .slips import slip_hint
@@ -87,7 +88,7 @@ def scenario_of(values: dict[str, Any], path: Path) -> Scenario:
 def _study(entries: Entries, path: Path) -> Scenario:
     """The study as its file says it, and then what follows of that: demands of trips, streams that give way, junctions' cells."""
     study = _as_written(entries, path)
-    for following in (with_demand, with_merges, with_actuated_signals, expanded):
+    for following in (with_demand, with_merges, with_actuated_signals, with_pockets, expanded):
         study = following(study)
     return study
 

@@ -43,6 +43,6 @@ def _group(crossing: Crossing, group: Group, study: Scenario, units: Units) -> L
     roads = [movement_road(crossing, way) for way in own]
     section = study.roads[roads[0]].sections[0]
     into = ", ".join(crossing.into[way[1]] for way in own)
-    name = movement_name(crossing, own[0]) if len(own) == 1 else f"{crossing.sources[own[0][0]]} to {into}"
+    name = movement_name(crossing, own[0]) if len(own) == 1 else f"{crossing.approach(own[0][0])} to {into}"
     return LaneGroup(f"{crossing.place}, {name}", cell_of(stop_line(crossing, own[0]), units), [cell_of(road, units) for road in roads],
                      [cell_of(movement_road(crossing, way), units) for way in group.loading], group.lanes * float(section.saturation_flow))
