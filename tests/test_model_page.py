@@ -159,7 +159,7 @@ def test_the_books_of_a_gate_and_a_road_at_other_steps(gate, road, told, recorde
     first, second = Course(report, "in"), Course(report, "a")
     flight = first.gone[gate] - (second.held[road] + second.gone[road])
     figures = {"inside": first.held[gate] + second.held[road], "flight": flight, "entered": first.held[gate] + first.gone[gate]}
-    assert told.format(**figures) in MODEL.split("\n## Flights and books\n")[1].split("\n## ")[0]
+    assert told.format(**figures) in (TOP / "docs/inside/REGIONS.md").read_text().split("\n## Flights and books\n")[1]
 
 
 @pytest.mark.parametrize("ramp, delay", [(1, 52), (2, 53)])

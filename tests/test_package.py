@@ -206,17 +206,16 @@ def test_the_tools_run_a_study_by_the_packaged_program(kind, unpacked):
     assert f" by {built}." in (it.home / "bottleneck.html").read_text()
 
 
-@pytest.mark.parametrize("page", ["README.md", "docs/INSTALL.md"])
-def test_the_first_commands_of_a_document_make_a_picture(page, unpacked, tmp_path):
-    """By Debian's package, which they find where it is installed; it is unpacked elsewhere here."""
+def test_the_first_commands_of_the_first_page_make_a_picture(unpacked, tmp_path):
+    """By Debian's package, unpacked."""
     it = Unpacked(unpacked["deb"].prefix, tmp_path)
-    blocks = re.findall(r"^```\n(.*?)^```", (it.prefix / "share/doc/ctm" / page).read_text(), re.MULTILINE | re.DOTALL)
-    block = next(block for block in blocks if "ctm-tools run own.toml" in block)
-    lines = [line.replace("/usr/share", f"{it.prefix}/share") for line in block.splitlines() if not line.startswith("apt ")]
+    blocks = re.findall(r"^```\n(.*?)^```", (it.prefix / "share/doc/ctm/README.md").read_text(), re.MULTILINE | re.DOTALL)
+    block = next(block for block in blocks if "ctm-tools examples own" in block)
+    lines = [line for line in block.splitlines() if not line.startswith("apt ")]
     asks = "set -e; PATH=$1:$PATH; " + "; ".join(lines)
     subprocess.run(["bash", "-c", asks, "bash", it.prefix / "bin"], cwd=tmp_path, check=True,
                    env={"PATH": "/usr/bin:/bin", "HOME": str(tmp_path)})
-    assert (tmp_path / "own-time-space.png").read_bytes().startswith(b"\x89PNG")
+    assert (tmp_path / "bottleneck-time-space.png").read_bytes().startswith(b"\x89PNG")
 
 
 @pytest.mark.parametrize("kind", KINDS)

@@ -7,7 +7,7 @@ from function_pages import PAGE as FUNCTIONS
 from gathering import contents, pages
 from theorem_pages import theorem_pages
 
-BOOKS = {"For who uses it": Path("docs/README.md"), "For who carries it on": Path("docs/inside/README.md")}
+BOOKS = {"For users": Path("docs/README.md"), "For maintainers": Path("docs/inside/README.md")}
 
 
 def navigation() -> list[dict]:

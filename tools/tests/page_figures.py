@@ -9,6 +9,7 @@ import tomllib
 from fractions import Fraction
 from functools import lru_cache
 from math import ceil, exp, floor
+from pathlib import Path
 from statistics import NormalDist
 from types import SimpleNamespace as Some
 
@@ -21,14 +22,14 @@ from parts import processor_seconds
 from .examples import EXAMPLES, TOOLS
 from .kinematic_waves import LaneDrop
 from .test_actuated import FOLLOW, STUDY as ACTUATED
-from .test_validation import DEMAND, LIMIT, clocks, test_speed_limit_over_the_length_of_cells as OVER_LENGTHS
+from .test_validation import DEMAND, LIMIT, clocks, hours, test_speed_limit_over_the_length_of_cells as OVER_LENGTHS
 from .test_validation import run as run_anew
 from .test_yield import FEW, MANY, SIDE, SIDE_STREETS
 from .trips import TWO_WAYS
 from .validation_tables import figures_of, rows_under
 
 TOP = TOOLS.parent
-FIRST, VALIDATION = "README.md", "docs/VALIDATION.md"
+FIRST, VALIDATION, SUMO = "README.md", "docs/VALIDATION.md", "docs/SUMO.md"
 FIGURE = re.compile(r"(?<![\w.])\d(?:[\d,:]*\d)?(?:\.\d+)?(?:e-?\d+)?")
 SUITES = {"bookworm": 12, "trixie": 13}  # of Debian, with their numbers
 HIGH = 0.9  # of a jump, from which and to whose rest its width is taken
@@ -108,7 +109,7 @@ def red_light():
     yield f"On two lanes {flow:,} vehicles/h drive at {one.v} km/h, {short(free)} vehicles/km, and a light is red from {clock(green, -red)} to {clock(green)}"
     yield f"The jam density is {one.jam} vehicles/km and the saturation flow {one.most:,} vehicles/h."
     yield f"The tail moves back by {flow}/({one.jam} - {short(free)}) = {short(tail)} km/h."
-    yield f"The release meets it at {clock(green, met)}, {short(back)} m back, and the last who waited pass the stop line at {clock(green, gone)}."
+    yield f"The release meets it at {clock(green, met)}, {short(back)} m back, and the last vehicles that waited pass the stop line at {clock(green, gone)}."
     yield f"{short(held)} vehicles come in the red, so the delay is {short(held)}·({red} s + {short(gone)} s)/2 = {delay} vehicle-hours."
     yield f"| theory | | {short(back)} m | {clock(green, met)} | {delay} vehicle-hours |"
 
@@ -275,9 +276,9 @@ def speed_limit():
            f"from km {first} to {last} (")
     yield (f"At either speed waves run back at {w} km/h and the jam density is {jam} vehicles/km. So the triangle of {v} km/h ends at "
            f"{short(LIMIT.most / v)} vehicles/km and {LIMIT.most:,.0f} vehicles/h, and that of {low} km/h at {short(LIMIT.left / low)} and {low}·{short(LIMIT.left / low)} = {LIMIT.left:,.0f}.")
-    yield (f"Who is in the stretch at {clock(start)} drives on at {low} km/h, so {low}·{short(LIMIT.free)} = {out:,.0f} vehicles/h, {short(out / v)} vehicles/km, come "
+    yield (f"Vehicles in the stretch at {clock(start)} drive on at {low} km/h, so {low}·{short(LIMIT.free)} = {out:,.0f} vehicles/h, {short(out / v)} vehicles/km, come "
            f"out until {clock(start + through)}.")
-    yield (f"Behind them {LIMIT.left:,.0f} vehicles/h pass the stretch, {short(LIMIT.queued)} vehicles/km. {flow - LIMIT.left:.0f} too many come, so before it "
+    yield (f"Behind them {LIMIT.left:,.0f} vehicles/h pass the stretch, {short(LIMIT.queued)} vehicles/km. {flow - LIMIT.left:.0f} too many an hour come, so before it "
            f"stand {short(LIMIT.queued)} vehicles/km too: the tail moves back by {flow - LIMIT.left:.0f}/({short(LIMIT.queued)} - {short(LIMIT.free)}) = {-LIMIT.tail:.2f} km/h.")
     yield (f"From {clock(end)} on {LIMIT.most:,.0f} vehicles/h leave at km {last}. This release runs back at {w} km/h and meets the tail after "
            f"{short((LIMIT.met - LIMIT.end) * 60)} min, {-LIMIT.tail * LIMIT.met:.2f} km before the stretch.")
@@ -289,6 +290,20 @@ def speed_limit():
     told = [f"{delay:.2f}" for _, delay in OVER_LENGTHS.pytestmark[0].args[1]]
     yield (f"At km {last} {one:.2f} vehicles wait at {clock(start + through)}, {short(most)} at {clock(end)} and none at {clock(none)}: {delay:.2f} vehicle-hours. "
            f"The program has {told[0]}, {told[1]} and {told[2]} with cells of 250, 125 and 62.5 m")
+
+
+def row_of(page, begin):
+    """The cells of the one row of a page that begins so."""
+    row, = re.findall(rf"^\| {begin} \| (.*) \|$", read(page), re.MULTILINE)
+    return [cell.removesuffix(" †").partition(" ±")[0] for cell in row.split(" | ")]
+
+
+@of(VALIDATION)
+def the_worst_cases_beside_sumo():
+    grid, ramp, side = row_of(SUMO, "grid6"), row_of(SUMO, "ramp"), row_of(SUMO, "277 beside 600")
+    yield f"| [grid6](SUMO.md#imported-networks): delay, vehicle-hours | {grid[4]} | {grid[3]} |"
+    yield f"| [ramp](SUMO.md#imported-networks): vehicles served | {ramp[2]} | {ramp[1]} |"
+    yield f"277 beside 600: each loses, s | {side[2]} | {side[0]} |"
 
 
 @of(VALIDATION)
@@ -340,7 +355,7 @@ def coming_at_random():
     # In the first 5 minutes 31.25 pass, in the others 37.5.
     first, others = (at_random(passed * 12 / 900, 900, 4) for passed in (31.25, 37.5))
     mean = (31.25 * first + 11 * 37.5 * others) / (31.25 + 11 * 37.5)
-    yield f"By hand a stop that passes 500 vehicles/h costs {stop[0]:.2f} s to each of 250, and {stop[1]:.2f} s to each of 500"
+    yield f"On paper a stop that passes 500 vehicles/h costs {stop[0]:.2f} s to each of 250, and {stop[1]:.2f} s to each of 500"
     yield f"Fixed greens that pass 900 cost {others:.2f} s to each of 450, and with an emptier first interval {mean:.3f} s"
 
 
@@ -384,14 +399,14 @@ def two_ways():
     delay = waiting * (first / 2 + 60 - first + costs / 2) / 60
     interval = values["routing"]["interval"].removesuffix(" min")
     within = 60 - first
-    yield (f"One way takes {short(short_way)} min and another {short(long_way)}. The short one ends in a lane of {passes:,} vehicles/h. From {begin} to 08:00 "
-           f"{come:,} vehicles/h come, who")
-    yield (f"All take the short way until its queue costs {short(costs)} min, in which {passes:,}/{60 / costs:.0f} = {waiting:.1f} vehicles pass, after {short(first)} min. "
+    yield (f"One route takes {short(short_way)} min and another {short(long_way)}. The short one ends in a lane of {passes:,} vehicles/h. From {begin} to 08:00 "
+           f"{come:,} vehicles/h come, whose drivers")
+    yield (f"All take the short route until its queue costs {short(costs)} min, in which {passes:,}/{60 / costs:.0f} = {waiting:.1f} vehicles pass, after {short(first)} min. "
            f"From then on {come - passes:,} take the long one. The queue is gone {short(costs)} min after the last has come to it. The delay is {waiting:.1f} vehicles "
            f"times ({short(first)}/2 + {short(within)} + {short(costs)}/2) min, {delay:.1f} vehicle-hours.")
     yield f"With an interval of choice of {interval} min"
     yield f"of {come * within / 60:,.0f} drivers do in place of {passes * within / 60:,.0f}, and the delay is {figures_of('delay')[1][0]} vehicle-hours."
-    told, by_the_program = figures_of("two ways")
+    told, by_the_program = figures_of("two routes")
     yield f"the long one is taken from | {clock(7, first * 60)} | {by_the_program[0]} |"
 
 
@@ -412,14 +427,24 @@ def the_lane_drop_of_the_first_page():
     busy = [row for row in values["gates"]["on"]["demand"] if row[2] > carried]
     cells, delay = report_rows("bottleneck")
     waited = [name for name, (_, _, _, wait) in cells.items() if wait > 0 and name.startswith("m")]
-    length = one.v * step / 3600
-    reach, cost = short(len(waited) * length), short(delay * step / 3600)
+    reach, cost = short(len(waited) * one.v * step / 3600), short(delay * step / 3600)
+    saved = short(hours(run("bottleneck-staggered"), slice(None)), 0)
     yield (f"loses its third lane at km {short(drop['from'])}. Between {busy[0][0]} and {busy[-1][1]} more vehicles come than two lanes carry. The outlined "
-           f"queue reaches {reach} km back and costs {cost} vehicle-hours.")
-    yield f"A step is {step} s, and a cell {short(length * 1000)} m, the way of one step at free flow."
-    yield f"The delay of {short(delay)} vehicle-steps of {step} s is {cost} vehicle-hours"
-    yield f"The cells {waited[0]} to {waited[-1]} have waited: the queue reached {len(waited)} cells, {reach} km, back."
+           f"queue reaches {reach} km back and costs {cost} vehicle-hours. With staggered working hours the same vehicles lose {saved}.")
     yield f"in {len((EXAMPLES / 'bottleneck.toml').read_text().splitlines())} lines."
+    yield "a map at 08:00, and density"
+
+
+@of(FIRST)
+def how_fast_it_is():
+    """The tables of docs/SPEED.md, with the day that it says."""
+    page = read("docs/SPEED.md").split("## Beside SUMO")[1].split("\n## ")[0]
+    seconds, = re.findall(r"^dense   program .* (\d\.\d+)    \d\.\d+$", page, re.MULTILINE)
+    sparse, dense = (float(re.search(rf"^{demand} .*SUMO by 1 s.* ([\d.]+) of the program's", page, re.MULTILINE)[1]) for demand in ("sparse", "dense"))
+    cells, steps = re.search(r"^made 1000 dense +(\d+) +(\d+) ", read("docs/SPEED.md"), re.MULTILINE).groups()
+    day = re.search(r"of (\d+ \w+ \d{4})", read("docs/SPEED.md"))[1]
+    yield (f"{int(cells):,} cells through {int(steps):,} steps of dense traffic in {seconds} s. SUMO's mesoscopic model takes {dense:.0f} times as long, and with "
+           f"sparse traffic {sparse:.0f} times ([measured](docs/SPEED.md#beside-sumo) on {day})")
 
 
 @of(FIRST)
@@ -427,16 +452,18 @@ def what_is_needed():
     version = re.search(r'__version__ = "(.*?)"', read("tools/ctmtools/__init__.py"))[1]
     least = ".".join(re.search(r"sys.version_info < \((\d+), (\d+)\)", read("tools/find-python")).groups())
     suite = re.search(r"^suite=(\w+)$", read("bench/installed"), re.MULTILINE)[1]
-    low, high = re.search(r"A first `./ctm run` took ([\d.]+) to ([\d.]+) minutes on four", read("docs/inside/MAP.md")).groups()
+    packages, fewer = re.search(r"some (\d+) packages in a clean Debian, (\d+) with", read("docs/INSTALL.md")).groups()
     most = re.search(r"at most (\d+ MiB) of text", read("launcher/try"))[1]
     minutes = int(re.search(r"^try_seconds=(\d+)$", read("launcher/try"), re.MULTILINE)[1]) // 60
     yield f"On Debian {SUITES[suite]} or newer"
+    yield f"`apt` brings some {packages} packages in a clean Debian, and {fewer} with"
     yield f"`pip install ctmtools-{version}-py3-none-linux_x86_64.whl`"
     yield f"`ctm-{version}-linux-x86_64.tar.gz`"
+    yield f"come as a kit, {kits()}, which"
     yield f"Python {least} or newer, and the toolchain's `rt` ({kits()})"
-    yield f"[{floor(float(low))} to {ceil(float(high))} minutes](docs/inside/MAP.md#check-times) on four processors"
-    yield f"It writes at most {most} and takes at most {minutes} minutes."
+    yield f"at most {minutes} minutes and {most} of text"
     yield f"the [Apache License {re.search(r'Version ([0-9.]+),', read('LICENSE-APACHE'))[1]}]"
+    yield "to a decision in 15 minutes"
 
 
 @of(FIRST)
@@ -454,24 +481,3 @@ def kits():
         own, its_logic = subprocess.run(["rt", "version"], stdout=subprocess.PIPE, text=True, check=True).stdout.strip().split(" ", 1)
         assert f"`{own}`" in names and its_logic == logic
     return names
-
-
-@of(FIRST)
-def the_table_of_commands():
-    """What a command says of itself has the numbers of its own words."""
-    most, = re.findall(r"^mode choose .*each of 1 to (\d+) plans", read("launcher/words.table"), re.MULTILINE)
-    yield f"runs up to {most} plans, and writes the best"
-    for words, does in re.findall(r"^\| `(\./ctm[^`]*)` \| (.*) \|$", read(FIRST), re.MULTILINE):
-        if figures(does) and figures(does) <= figures(words):
-            yield does
-
-
-@of(FIRST)
-def statuses():
-    number_of = {name: number for number, name in re.findall(r"^\| (\d) \| (\w+) \|", read("docs/FORMAT.md"), re.MULTILINE)}
-    refused = ", ".join(sorted(number_of[name] for name in ("Words", "Network", "TooLarge", "Saved", "Plans")))
-    yield f"- **Status {number_of['Done']}**:"
-    yield (f"refused by definition ({refused}), a read or a write failed ({number_of['ReadFault']}, {number_of['WriteFault']}), or memory was refused "
-           f"({number_of['NoMemory']}).")
-    yield f"or with {number_of['WriteFault']} and {number_of['NoMemory']} a beginning of the text."
-    yield f"a body that always answered {number_of['NoMemory']} would meet the theorem"

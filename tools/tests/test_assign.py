@@ -48,7 +48,7 @@ def test_all_take_the_short_way_until_its_queue_costs_as_much(two_ways):
     # 3,000 vehicles/h come, 2,000 pass: 5 min of queue after 10 min, two intervals of 5 min; then 2,000 of 3,000 go on so.
     assert taken[:2] == pytest.approx([250, 250]) and taken[2] < 200
     begins = 5 * next(place for place, vehicles in enumerate(taken) if vehicles < 249)
-    assert figures_of("two ways") == [["07:10"], [f"07:{begins:02}"]]
+    assert figures_of("two routes") == [["07:10"], [f"07:{begins:02}"]]
     assert taken[2:].sum() == pytest.approx(2000 * 50 / 60, rel=0.03)
     assert f"Then {taken[2:].sum():,.0f} of 2,500 drivers do in place of 1,667" in PAGE
     times = made.times[0][:, 3:9] * 10 / 60

@@ -12,7 +12,7 @@ from .examples import TOOLS
 TOP = TOOLS.parent
 COMMANDS_IN = {"docs/TUTORIAL.md": 9, "docs/how-to/signals.md": 2, "docs/how-to/closures.md": 4, "docs/how-to/sumo.md": 3,
                "docs/how-to/detectors.md": 3, "docs/how-to/how-sure.md": 1, "docs/how-to/other-ways.md": 2,
-               "docs/how-to/fast.md": 1, "README.md": 16, "tools/README.md": 9, "examples/README.md": 18, "tools/docs/measures.md": 6,
+               "docs/how-to/fast.md": 1, "README.md": 8, "tools/README.md": 9, "examples/README.md": 18, "tools/docs/measures.md": 6,
                "tools/docs/networks.md": 1, "tools/docs/calibration.md": 0, "tools/docs/saved.md": 6,
                "tools/docs/plans.md": 2, "tools/docs/pages.md": 3, "tools/docs/counts.md": 0, "tools/docs/detectors.md": 1, "tools/docs/queues.md": 0, "tools/docs/sweeps.md": 1,
                "tools/docs/python.md": 0, "tools/docs/units.md": 0, "tools/docs/uncertainty.md": 1, "tools/docs/routes.md": 2,
@@ -25,8 +25,6 @@ PAGES = sorted(str(path.relative_to(TOP)) for path in
 LEFT_OUT = {
     "tools/setup": "it installs packages",
     "./ctm --install": "it builds the programs",
-    "cp /usr/share/doc/ctm/examples/bottleneck.toml own.toml": "tests/test_package.py runs those of a package",
-    "man -l docs/ctm.1": "it needs man",
     "dask-scheduler --host 127.0.0.1 --port 8786 --dashboard-address 127.0.0.1:8787": "it runs until it is ended",
     "dask-worker tcp://127.0.0.1:8786 --host 127.0.0.1 --dashboard-address 127.0.0.1:0": "it needs a cluster",
     "./ctm-tools sweep study.toml --vary demand=0.8:1.2:0.01 --dask tcp://127.0.0.1:8786": "it needs a cluster",
@@ -227,8 +225,8 @@ def test_the_tutorial_shows_what_its_commands_print(top, recording_program):
     assert excerpts == 3
 
 
-def test_the_example_of_the_first_page_is_the_file_and_its_report(top, recording_program):
-    page = read("README.md").split("## An example")[1].split("\n## ")[0]
+def test_the_example_of_the_format_is_the_file_and_its_report(top, recording_program):
+    page = read("docs/FORMAT.md").split("### A lane drop")[1].split("\n## ")[0]
     file, report = (lines for _, lines in blocks(page))
     assert stand_together(file, read("examples/bottleneck.csv"))
     assert stand_together(report, ended(top, recording_program, "bash", "-c", "./ctm run < examples/bottleneck.csv")[1])
@@ -259,7 +257,7 @@ def test_the_times_of_the_map_add_up():
     assert f"some {sum(proofs.values()) / 60:.0f} processor-minutes of proofs and {tests / 60:.0f} of tests" in page
     edits, each, minutes = map(int, re.search(r"The (\d+) edits take some (\d+) s each, in all some (\d+) minutes", page).groups())
     assert round(edits * each / 60) == minutes
-    named, seconds = re.search(r"The longest chain decides the time: (.*), ([\d,]+) s\.", page).groups()
+    named, seconds = re.search(r"By these seconds of busy processors the longest chain is: (.*), ([\d,]+) s\.", page).groups()
     chain = re.findall(r"`(\w+)`", named)
     assert f"{sum(proofs[crate] for crate in chain):,}" == seconds
     uses = {line.split()[0].rstrip(":"): line.partition(":")[2].split() for line in read("crates.txt").splitlines() if ":" in line}

@@ -118,7 +118,7 @@ def test_the_travel_times_of_a_page():
     report.units = Units(step=60, start=0, roads={"a": ["a"]}, cells={"a": {"road": "a", "from_km": 0, "to_km": 0.25, "lanes": 1}})
     lines = list(page(report))
     # Who is the N-th enters at 1 + N/2 and leaves at 2 + N: of 40 they need 11 steps in the mean, and those of the last pair 20.5.
-    begin = lines.index("Travel time from end to end, of those who have arrived:")
-    assert lines[begin + 2:begin + 4] == ["  road    km  at free flow      mean   longest  of who set out at",
+    begin = lines.index("Travel time from end to end, of vehicles that have arrived:")
+    assert lines[begin + 2:begin + 4] == ["  road    km  at free flow      mean   longest  for departures at",
                                           "  a     0.25        60.0 s  11.0 min  20.5 min  00:20:00"]
     assert lines[3] == "Delay     6.67 vehicle-hours, 10.0 min for each vehicle that entered"

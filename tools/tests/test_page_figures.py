@@ -7,7 +7,7 @@ import re
 import pytest
 
 from .examples import TOOLS
-from .page_figures import FIGURE, FIRST, MADE, VALIDATION, figures, read
+from .page_figures import FIGURE, FIRST, MADE, SUMO, VALIDATION, figures, read
 from .test_documents import blocks, ended, stand_in_order, top  # noqa: F401
 
 TESTS = TOOLS / "tests"
@@ -29,29 +29,29 @@ TABLES = {
     "Come, vehicles/h | Greens on paper, s | Cycle | By the program | Cycle": ["test_actuated.py test_the_greens_settle_at_those_of_paper"],
 }
 # The rows of those tables that a text of page_figures.py has.
-WITHOUT_TEST = ("| theory |", "| [side street]", "| [two ways]")
+WITHOUT_TEST = ("| theory |", "| [side street]", "| [two routes]")
 # Texts that a test compares with what it finds, or whose figures are its own bounds.
 ASSIGN = "test_assign.py "
 TEXTS = [
     (VALIDATION, "The middle of the start of moving stays within 3 m", ["test_validation.py test_a_green_smears_the_wave_by_the_root_of_its_way"]),
     (VALIDATION, "With 800 vehicles/h at each arm the program settles after 4", ["test_yield.py test_four_arms_of_a_roundabout_alike_pass_what_they_do_by_hand"]),
-    (VALIDATION, "With 600 nobody waits.", ["test_yield.py test_a_roundabout_below_its_capacity_holds_nobody_up"]),
+    (VALIDATION, "With 600 none waits.", ["test_yield.py test_a_roundabout_below_its_capacity_holds_nobody_up"]),
     (VALIDATION, "a relative gap below 0.002, which 41 rounds reach", [ASSIGN + "test_the_delay_of_two_ways_is_the_one_on_paper"]),
     (VALIDATION, "Then 1,652 ", [ASSIGN + "test_all_take_the_short_way_until_its_queue_costs_as_much"]),
     (VALIDATION, "the shares over time are those on paper to 0.1 %, and drivers' times to 0.002 min",
      [ASSIGN + "test_two_pairs_leave_a_queue_as_they_came_into_it", ASSIGN + "test_who_queues_waits_as_long_as_on_paper"]),
     (VALIDATION, "each is taken by an eighth, to 1e-9", [ASSIGN + "test_eight_ways_that_are_alike_are_taken_alike"]),
-    (VALIDATION, "30 pairs ([grids.py](../tools/tests/grids.py)): in each, some round of the first 50 has a relative gap below 0.02. Each way that 5 vehicles "
+    (VALIDATION, "30 pairs ([grids.py](../tools/tests/grids.py)): in each, some round of the first 50 has a relative gap below 0.02. Each route that 5 vehicles "
      "or more take in an interval then takes at most 5 % longer",
      ["grids.py grid_study", ASSIGN + "test_a_made_grid_comes_to_rest_within_50_rounds", ASSIGN + "near_the_best"]),
-    (FIRST, "By the comparison the delay falls by 74 %, to 120 vehicle-hours", ["test_validation_page.py test_the_first_page_tells_what_staggered_hours_save"]),
+    (FIRST, "The comparison prints that the delay falls by 74 %, to 120 vehicle-hours", ["test_validation_page.py test_the_first_page_tells_what_staggered_hours_save"]),
 ]
-# What runs of bench made, which the gate doesn't run: where it begins and what stands behind it, by which scripts, and the checksum of
+# What runs of bench made on docs/SUMO.md, which the gate doesn't run: where it begins and what stands behind it, by which scripts, and the checksum of
 # its figures. A new run gives new ones.
 MEASURED = [
-    ("`./ctm-tools import sumo` makes studies of SUMO's networks", "\n## Who gives way\n", ["imported", "imported-vehicles"], "318c3f98bede"),
-    ("**Beside SUMO.** [bench/giving-way]", "**A signal that follows traffic.**", ["giving-way"], "d0f959be6c1c"),
-    ("**A queue that sends drivers round.**", "\n## ", ["rerouted-queues", "rerouted"], "bb6aaefc23f3"),
+    ("Figures of 28 November 2026", "\n## Giving way\n", ["imported", "imported-vehicles"], "262747dc6eda"),
+    ("Figures of 30 November 2026, commits cf2f832a", "\n## Drivers who", ["giving-way"], "a804418a1fad"),
+    ("Figures of 30 November 2026, commits 7a35d364", "\n## ", ["rerouted-queues", "rerouted"], "87974e237917"),
 ]
 
 
@@ -88,8 +88,6 @@ def test_each_text_stands_on_its_page_with_the_figures_of_its_source(made):
 
 def test_each_figure_has_a_source(made):
     pages = {page: read(page) for page in (FIRST, VALIDATION)}
-    for begin, end, _, _ in MEASURED:
-        pages[VALIDATION] = pages[VALIDATION].replace(measured_text(pages[VALIDATION], begin, end), "")
     for heads in TABLES:
         before, _, behind = pages[VALIDATION].partition(f"\n| {heads} |\n")
         table, _, rest = behind.partition("\n\n")
@@ -119,9 +117,9 @@ def test_the_figures_of_a_text_are_those_of_its_tests(page, text, tests):
 
 @pytest.mark.parametrize("begin, end, scripts, checksum", MEASURED, ids=[row[0][:30] for row in MEASURED])
 def test_what_was_measured_is_as_the_last_run_of_its_script_left_it(begin, end, scripts, checksum):
-    text = measured_text(read(VALIDATION), begin, end)
+    text = measured_text(read(SUMO), begin, end)
     for script in scripts:
-        assert f"bench/{script}" in read(VALIDATION) and (TOOLS.parent / "bench" / script).is_file()
+        assert f"bench/{script}" in text and (TOOLS.parent / "bench" / script).is_file()
     assert hashlib.sha256(" ".join(FIGURE.findall(text)).encode()).hexdigest()[:12] == checksum
 
 

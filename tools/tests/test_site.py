@@ -52,7 +52,7 @@ def test_each_page_stands_once_and_in_the_book_that_names_it():
     books = {title: inside for book in navigation() for title, inside in book.items()}
     assert sorted(in_order(navigation())) == sorted(map(str, [*pages(), *theorem_pages(), FUNCTIONS]))
     assert list(books)[:3] == ["ctm", *BOOKS]
-    assert set(in_order(books["For who carries it on"])) >= {
+    assert set(in_order(books["For maintainers"])) >= {
         str(path) for path in pages() if path.parts[:2] == ("docs", "inside")}
 
 

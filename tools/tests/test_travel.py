@@ -133,4 +133,4 @@ def test_the_page_has_the_roads_that_are_held_up(report):
     lines = list(page(report("bottleneck")))
     row = next(line.split() for line in lines if line.startswith("  m "))
     assert row[:4] == ["m", "7.50", "5.0", "min"] and row[6:8] == ["11.2", "min"]
-    assert "Travel time from end to end, of those who have arrived:" in lines
+    assert "Travel time from end to end, of vehicles that have arrived:" in lines

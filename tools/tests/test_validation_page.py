@@ -13,7 +13,7 @@ from .examples import TOOLS
 from .test_validation import LIMIT, clocks, hours, run
 from .validation_tables import PAGE, rows_under
 
-FIRST_PAGE = (TOOLS.parent / "README.md").read_text()
+FIRST_PAGE, FORMAT = ((TOOLS.parent / page).read_text() for page in ("README.md", "docs/FORMAT.md"))
 
 
 def rows_of(heading):
@@ -77,7 +77,7 @@ def cases():
 
 
 # What test_yield.py and test_assign.py hold beside the figures on paper.
-ELSEWHERE = ["side street", "roundabout of four arms alike", "permitted left turn", "two ways", "delay", "a closed bridge"]
+ELSEWHERE = ["side street", "roundabout of four arms alike", "permitted left turn", "two routes", "delay", "a closed bridge"]
 
 
 def test_the_table_of_cases():
@@ -109,7 +109,7 @@ def test_the_figures_by_theory_are_those_of_the_workings():
         if case.startswith("[full off-ramp]"):
             on_the_road, on_the_ramp = sorted(told, reverse=True)
             told = {on_the_road / 4 + on_the_ramp}  # those bound for the town, whom the working tells: a quarter of the road's
-        if not case.startswith("[two ways]"):  # test_assign.py has its time of day, and the working how long after the begin that is
+        if not case.startswith("[two routes]"):  # test_assign.py has its time of day, and the working how long after the begin that is
             assert told <= amounts(working(*link.groups())), case
 
 
@@ -123,8 +123,8 @@ def test_the_first_page_tells_the_queue_and_the_delay_of_the_lane_drop():
     drop = run("bottleneck")
     reach, steps = queues_in(drop)[0].reach, round(hours(drop, slice(None)) * 360)
     assert f"queue reaches {reach:g} km back and costs {delay(drop)} vehicle-hours" in FIRST_PAGE
-    assert f"The delay of {steps:,} vehicle-steps of 10 s is {delay(drop)} vehicle-hours" in FIRST_PAGE
-    assert f"the queue reached {round(reach / 0.25)} cells, {reach:g} km, back" in FIRST_PAGE
+    assert f"The delay of {steps:,} vehicle-steps of 10 s is {delay(drop)} vehicle-hours" in FORMAT
+    assert f"the queue reached {round(reach / 0.25)} cells, {reach:g} km, back" in FORMAT
 
 
 @pytest.mark.parametrize("cell, step, told", rows_of("A red light"))

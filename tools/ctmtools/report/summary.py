@@ -96,10 +96,10 @@ def _travel(report: Report) -> Iterator[str]:
     if step is None or not roads:
         return
     yield ""
-    yield "Travel time from end to end, of those who have arrived:"
+    yield "Travel time from end to end, of vehicles that have arrived:"
     yield ""
     rows: list[tuple[str, ...]] = [("road", "km", "at free flow", "mean", "longest",
-                                    "of who set out at")]
+                                    "for departures at")]
     for time in roads[:MOST_ROADS]:
         kilometres = report.units.cells[report.units.roads[time.road][-1]]["to_km"]
         rows.append((time.road, kilometre(kilometres), *(_lasting(step * steps) for steps in
