@@ -10,7 +10,7 @@ from ctmtools import read_report
 from ctmtools.assignment.assigning import Assignment, recorded_every
 from ctmtools.assignment.choices import Choice, Departures
 from ctmtools.assignment.forks import Fork, Rounded
-from ctmtools.assignment.times import gap_of
+from ctmtools.assignment.times import Pace, gap_of, swap
 from ctmtools.assignment.messages import not_settled
 from ctmtools.assignment.ways_file import read_ways
 from ctmtools.study.reading import read_scenario, read_values
@@ -196,3 +196,22 @@ def test_a_made_grid_comes_to_rest_within_50_rounds(seed, tmp_path, recording_pr
     made.start()
     assert any(done.settled(0.02) and near_the_best(made) for done in made.rounds(1e-9, 50))
     assert made.report.total.left == pytest.approx(made.departures.vehicles.sum(), abs=1)
+
+
+def test_a_round_that_jumps_is_taken_back_and_the_next_goes_half_as_far():
+    pace = Pace()
+    assert pace.next(0.5) == 1 and pace.next(0.2) == pytest.approx(1 / 1.02) and pace.most == 1
+    assert pace.back(0.2) == pytest.approx(1 / 2.04) == pace.most
+    # A way that takes ten times as long as the best would lose all of its drivers at once; now it loses half of them.
+    choice = Choice("a", "x", numpy.array([1.0]), 2, [(0,), (1,)])
+    choice.chosen = numpy.array([[0.8], [0.2]])
+    departures = Departures([("a", "x")], numpy.array([0.0, 1.0]), numpy.array([[100.0]]), 1, 1, 1.0)
+    assert swap([choice], departures, [numpy.array([[100.0], [10.0]])], 0.5, 0.5) == pytest.approx(40)
+    assert choice.chosen.ravel().tolist() == pytest.approx([0.4, 0.6])
+
+
+def test_the_best_round_is_what_is_left(recording_program, tmp_path):
+    made, rounds = assigned(tmp_path, TWO_WAYS, 1e-12, 4)
+    assert made.best.gap.relative == min(done.gap.relative for done in rounds)
+    assert gap_of(made.choices, made.departures, made.times).relative == made.best.gap.relative
+    assert made.report.units.hours(made.report.sums.delay) == made.best.delay

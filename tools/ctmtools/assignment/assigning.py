@@ -25,7 +25,7 @@ from .forks import Rounded, exits_ahead, forks_of, parts_of, refuse_shares
 from .legs import Legs
 from .passing import Passing, Passings
 from .searching import Search
-from .times import Gap, Pace, gap_of, swap, times_of
+from .times import JUMPED, Gap, Pace, gap_of, swap, times_of
 from .ways_file import WayRow, rows_of
 
 EXACT = 1_000_000  # cells times steps; so many at most are recorded step by step, which makes all times exact
@@ -58,9 +58,38 @@ class Round:
         """Whether hardly anybody would gain by another way, and shares and limits are those of the times that they lead to."""
         return self.gap.relative < gap and self.moved < gap and self.limits <= LEAST_MOVE
 
+    @property
+    def rank(self) -> tuple[bool, float]:
+        """What is less of a better round: that its limits still move, and the gap."""
+        return self.limits > LEAST_MOVE, self.gap.relative
+
+
+CHANGING = ("shared", "passing", "times", "parts", "report", "text", "counts", "courses", "wanted", "limits_moved")
+
+
+class Kept:
+    """The best round so far with all that it came to, which a later one that is worse takes nothing of."""
+
+    def __init__(self, done: Round, assignment: Assignment) -> None:
+        self.done = done
+        self.values = {name: getattr(assignment, name) for name in CHANGING}
+        self.crowded = set(assignment.crowded)
+        self.choices = [(list(choice.ways), choice.chosen, choice.kept) for choice in assignment.choices]
+        self.rates = [(one.rates, one.of_lane) for one in assignment.yielding]
+
+    def put_back(self, assignment: Assignment) -> None:
+        """Has an assignment be as it was then."""
+        for name, value in self.values.items():
+            setattr(assignment, name, value)
+        assignment.crowded = set(self.crowded)
+        for choice, (ways, chosen, kept) in zip(assignment.choices, self.choices):
+            choice.ways, choice.chosen, choice.kept = list(ways), chosen, kept
+        for one, (rates, of_lane) in zip(assignment.yielding, self.rates):
+            one.rates, one.of_lane = rates, of_lane
+
 
 class Assignment:
-    """A study's trips on their ways. `forks` have the shares that follow, `report` is that of the last round's run."""
+    """A study's trips on their ways. `forks` have the shares that follow, `report` is that of the best round's run at the end."""
 
     def __init__(self, study: Scenario, workers: int | None = None, program: str | None = None) -> None:
         if not study.trips:
@@ -92,6 +121,7 @@ class Assignment:
         self.times: list[Numbers] = []
         self.parts: list[Numbers] = []
         self.report: Report | None = None
+        self.kept: Kept | None = None
         self.text = b""
 
     def start(self) -> None:
@@ -111,12 +141,33 @@ class Assignment:
         for number in range(1, iterations + 1):
             self._run(counts)
             done = self._judged(number, changed)
+            if self.kept is None or done.settled(gap) or done.rank <= self.kept.done.rank:
+                self.kept = Kept(done, self)
             yield done
             if done.settled(gap) or number == iterations:
-                return
-            self._limit(1.0 if number == 1 else DAMPING)
-            changed = swap(self.choices, self.departures, self.times, pace.next(done.gap.relative))
+                break
+            changed = self._move(done, pace, gap)
             counts = self._loaded()
+        if self.kept is not None:
+            self.kept.put_back(self)
+
+    def _move(self, done: Round, pace: Pace, gap: float) -> float:
+        """Has drivers change ways behind a round, from the best one where this one's gap jumped; how many vehicles did."""
+        assert self.kept is not None  # a round was made
+        best = self.kept.done.gap.relative
+        if done.gap.relative > max(gap, JUMPED * best) and not self.kept.done.rank[0]:
+            self.kept.put_back(self)
+            part = pace.back(best)
+        else:
+            part = pace.next(done.gap.relative)
+        self._limit(1.0 if done.number == 1 else DAMPING)
+        return swap(self.choices, self.departures, self.times, part, pace.most)
+
+    @property
+    def best(self) -> Round:
+        """The round that is written: of those made the one that settled, else that of the least gap."""
+        assert self.kept is not None  # a round was made
+        return self.kept.done
 
     def by_run_of(self, report: Report, last: Round) -> Round:
         """The last round as another run of its shares has it, the report of which is taken, with the times that follow."""

@@ -23,14 +23,16 @@ def not_settled(assignment: Assignment, rounds: Sequence[Round], gap: float) -> 
     """Why the last round isn't settled, where it isn't, and what of the trips the run doesn't serve."""
     last = rounds[-1]
     if not last.settled(gap):
-        which = f"the gap is {last.gap.relative:.4f}" if last.gap.relative >= gap else \
+        made = max(one.number for one in rounds)
+        of = f" of round {last.number}, which is written as the best," if last.number < made else ""
+        which = f"the gap{of} is {last.gap.relative:.4f}" if last.gap.relative >= gap else \
             f"{last.moved:.2%} of what comes to branches still moves between them" if last.moved >= gap else \
             f"what passes of those who give way still moves by {last.limits:.1%}"
         before = rounds[-LAST - 1].gap.relative if len(rounds) > LAST else float("inf")
         why = "it still falls, so more rounds help" if last.gap.relative < STALLED * before else \
             "it no longer falls: a shorter interval of choice or a longer study may help"
         limit = f", above {gap:g}" if last.gap.relative >= gap or last.moved >= gap else ""
-        yield f"warning: after {last.number} rounds {which}{limit}; {why}{_most_of(assignment)}"
+        yield f"warning: after {made} rounds {which}{limit}; {why}{_most_of(assignment)}"
     if assignment.crowded:
         source, into = min(assignment.crowded)
         yield (f"warning: {len(assignment.crowded)} pairs have as many ways as routing.ways says, and quicker ones were found, as "

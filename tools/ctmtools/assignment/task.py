@@ -50,10 +50,11 @@ def begun(task: AssignTask, workers: int | None = None) -> Assignment:
 
 
 def measure_assigned(task: AssignTask) -> dict[str, Any]:
-    """The measures of a task's last round, by name."""
+    """The measures of a task's best round, by name."""
     assignment = begun(task, 1)
-    *_, last = assignment.rounds(task.gap, task.iterations)
-    return measures(assignment, last)
+    for _ in assignment.rounds(task.gap, task.iterations):
+        pass
+    return measures(assignment, assignment.best)
 
 
 def assigned_ways(task: AssignTask, output: str | Path | None, earlier: str | Path | None) -> Results:
@@ -62,7 +63,9 @@ def assigned_ways(task: AssignTask, output: str | Path | None, earlier: str | Pa
     if places:
         places.guard(Path(task.path), Path(earlier) if earlier else None)
     assignment = begun(task)
-    *_, last = assignment.rounds(task.gap, task.iterations)
+    for _ in assignment.rounds(task.gap, task.iterations):
+        pass
+    last = assignment.best
     if places:
         last = written(assignment, last, task.values, places).last
     rows = pandas.DataFrame(assignment.rows()).rename(columns={"source": "from", "into": "to"})

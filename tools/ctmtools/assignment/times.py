@@ -5,7 +5,7 @@ dynamic user equilibrium problem", Transportation Research Part B 43(3), 2009: i
 best one that grows with what the way takes more, relative to the best. How fast they move follows the self-regulated averages
 of H. X. Liu, X. He, B. He, "Method of successive weighted averages (MSWA) and self-regulated averaging schemes for solving
 stochastic user equilibrium problem", Networks and Spatial Economics 9(4), 2009: slower in earnest where the gap grew, else
-a little slower.
+a little slower. Where queues that block each other make it jump, the next round goes on from the best one, half as fast.
 """
 
 from __future__ import annotations
@@ -22,6 +22,7 @@ from .courses import Courses
 FIRST = 1.0
 GREW, FELL = 0.5, 0.02  # what a round adds to the divisor of the pace where the gap grew, and where it fell
 STEEP = 6.0  # so much of a way's drivers move for each part that it takes more than the best, at a pace of 1
+JUMPED = 2.0  # times the gap of the best round, above which the next one goes on from there
 FEW = 1e-3  # of a pair's drivers; where fewer are left on a way they move too
 
 
@@ -68,6 +69,7 @@ class Pace:
 
     def __init__(self) -> None:
         self.divisor = FIRST
+        self.most = 1.0  # of the drivers of a way that move at once
         self.before: float | None = None
 
     def next(self, gap: float) -> float:
@@ -77,15 +79,23 @@ class Pace:
         self.before = gap
         return 1 / self.divisor
 
+    def back(self, best: float) -> float:
+        """The pace from the best round, whose gap is given, behind one that jumped: half of what it was, for no more drivers."""
+        self.divisor *= 2
+        self.most = 1 / self.divisor
+        self.before = best
+        return 1 / self.divisor
 
-def swap(choices: Sequence[Choice], departures: Departures, times: Sequence[Numbers], pace: float) -> float:
-    """Moves drivers who choose to the best ways of their pairs; gives how many vehicles did."""
+
+def swap(choices: Sequence[Choice], departures: Departures, times: Sequence[Numbers], pace: float,
+         most: float = 1.0) -> float:
+    """Moves drivers who choose to the best ways of their pairs, of each way that part at most; gives how many vehicles did."""
     changed = 0.0
     for choice, vehicles, steps in zip(choices, departures.by_interval, times):
         if choice.given or len(choice.ways) < 2:
             continue
         least = steps.min(axis=0)
-        leaving = choice.chosen * numpy.minimum(1, pace * STEEP * (steps - least) / least)
+        leaving = choice.chosen * numpy.minimum(most, pace * STEEP * (steps - least) / least)
         leaving = numpy.where((choice.chosen - leaving < FEW) & (steps > least), choice.chosen, leaving)
         best = steps == least
         choice.chosen = choice.chosen - leaving + best * leaving.sum(axis=0) / best.sum(axis=0)

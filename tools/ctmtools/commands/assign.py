@@ -86,10 +86,11 @@ def command(source: str, earlier: str | None, informed: str | None, after: str |
     for line in told_of_study(assignment.shared.built):
         tell(line)
     rounds = _rounds(assignment, gap, iterations)
-    made = written(assignment, rounds[-1], values, places)
+    best = assignment.best
+    made = written(assignment, best, values, places)
     drawn(rounds, made.rows, made.report, assignment.departures.width, places)
-    _tell(assignment, [*rounds[:-1], made.last], gap, made.rows, made.passing)
-    for line in settled_lines(assignment.study, rounds[-1], made.last):
+    _tell(assignment, [*(rounds[:-1] if best is rounds[-1] else rounds), made.last], gap, made.rows, made.passing)
+    for line in settled_lines(assignment.study, best, made.last):
         tell(line)
     for line in held_lines(made.report):
         tell(line)
