@@ -1,3 +1,5 @@
 """`python3 -I tools WORDS`, which ./ctm-tools calls. Isolated, Python takes modules from this folder and from its own alone."""
 
-import ctmtools.__main__
+from ctmtools.__main__ import begin
+
+begin()
