@@ -29,11 +29,15 @@ Examples:
   ctm-tools run examples/arterial-wave.toml -o wave.report
   ctm-tools run examples/interchange.csv --every 6
   ctm-tools run examples/bottleneck.toml --checkpoint "1 h"
+  ctm-tools run examples/village-stop.toml --seeds 10
 
 A study is built first; where streams give way or greens follow traffic, runs beforehand work out what passes. The
 network and units go beside the report. Without -o the report is written into the folder one
 is in. Each step is recorded where the program's limit of 4,000,000 recorded values allows, else each E-th.
 CTM_PROGRAM names another program than that of the repository or the package.
+
+With --seeds vehicles come at random in runs beside that of the report: whole ones, as many in each step as a Poisson draw has, and
+those who give way have gaps at random. Their delay and longest queue stand below the page by approach, as mean and interval.
 
 With --checkpoint the run goes in stretches, and the moment that was reached stands in FILE.saved beside the report. The same
 call goes on from there where the run was ended, by Ctrl-C or otherwise, and takes the file away once the report is written.
@@ -47,8 +51,10 @@ Such a run isn't recorded, so no queues are told; its report is that of --every 
 @click.option("-o", "--output", metavar="FILE.report", type=click.Path(), help="Where the report goes.")
 @click.option("--every", metavar="E", type=click.IntRange(0, 100_000), help="Record each E-th step; 0 records none.")
 @click.option("--workers", metavar="N", type=click.IntRange(1, 16), help="Threads; by default as many as processors.")
+@click.option("--seeds", metavar="N", type=click.IntRange(2, 1000), help="Draw arrivals N times too, and print means and intervals.")
 @click.option("--checkpoint", metavar="EVERY", help="Keep the run each such time, as \"30 min\", or number of steps.")
-def command(source: str, output: str | None, every: int | None, workers: int | None, checkpoint: str | None) -> None:
+def command(source: str, output: str | None, every: int | None, workers: int | None, seeds: int | None,
+            checkpoint: str | None) -> None:
     """Run a study or a network by ctm, write its report with records, and print a page.
 
     Before the page stands what `build` tells of the study, or the warnings of `lint` of the network. The page has the
@@ -59,6 +65,8 @@ def command(source: str, output: str | None, every: int | None, workers: int | N
     target = report_target(source, output)
     if checkpoint is not None and every:
         raise click.UsageError("--checkpoint: such a run isn't recorded, so it goes without --every")
+    if seeds is not None and (checkpoint is not None or every == 0):
+        raise click.UsageError("--seeds: goes with records, so without --checkpoint and --every 0")
     guard_report(target)
     prepared = _opened(source, greens_path(target))
     stretch, begun = 0, None
@@ -74,7 +82,8 @@ def command(source: str, output: str | None, every: int | None, workers: int | N
     else:
         report = _in_stretches(target, prepared, stretch, begun, workers)
     greens_path(target).unlink(missing_ok=True)
-    for line in [*page(report), *green_lines(report), *held_lines(report)]:
+    drawn = _drawn(prepared, seeds, report) if seeds is not None else []
+    for line in [*page(report), *green_lines(report), *held_lines(report), *drawn]:
         tell(line)
     tell("", f"Report {target}{_recorded(report)}, units {units_path(target)}, network {prepared.path}")
 
@@ -89,6 +98,15 @@ def _opened(source: str, kept: Path) -> Prepared:
         if not kept.exists():
             raise
         raise Interrupted(f"stopped; the same call goes on from the greens in {kept}") from None
+
+
+def _drawn(prepared: Prepared, seeds: int, report: Report) -> list[str]:
+    """What runs with arrivals at random tell."""
+    from ..uncertainty.seeds import seed_lines, seeded  # here, so that other runs don't load pandas
+
+    with bar(seeds, "draws of arrivals") as done:
+        frame = seeded(prepared, seeds, done=done)
+    return list(seed_lines(frame, report, prepared.settled.study if prepared.settled else None))
 
 
 def _in_stretches(target: Path, prepared: Prepared, stretch: int, begun: Moment | None, workers: int | None) -> Report:

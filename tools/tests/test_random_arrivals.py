@@ -1,0 +1,124 @@
+"""Arrivals at random: what is drawn, by its mean, and the delay of a side street and of a fixed green beside the manual's formulas."""
+
+import pytest
+
+from ctmtools import build, read_study
+from ctmtools.network_file.network import network_of
+from ctmtools.runs.arrivals import at_random, lanes_giving_way
+from ctmtools.runs.running import opened
+from ctmtools.uncertainty.seeds import approaches_of, seeded
+from ctmtools.yielding.control_delay import at_signal, at_stop
+from ctmtools.yielding.gaps import harders
+
+NETWORK = b"""ctm,1
+steps,3600
+gate,g,9,0
+gate,h,9,0
+road,a,60,0.5,1,5,0
+road,b,60,0.5,1,5,0
+exit,x,9
+exit,y,9
+link,g,a
+link,a,x
+link,h,b
+link,b,y
+limit,a,0,3600,0.1
+demand,g,0,1800,0.15
+demand,g,900,1800,0.15
+demand,h,0,3600,0.2
+"""
+STUDY = """step = 2
+start = "06:00"
+duration = 3600
+lane = { free_flow_speed = 50, wave_speed = 18, jam_density = 150, saturation_flow = 1800 }
+[roads]
+side = { length = "280 m", lanes = 1 }
+main = { length = "30 m", lanes = 1 }
+away = { length = "30 m", lanes = 1 }
+along = { length = "30 m", lanes = 1 }
+[gates]
+in-side = { into = "side", demand = 150 }
+in-main = { into = "main", demand = 600 }
+[exits]
+x = { from = "away" }
+y = { from = "along" }
+[[junctions]]
+from = ["side", "main"]
+into = ["away", "along"]
+shares = [[1, 0], [0, 1]]
+"""
+STOP = 'yields = [{ movement = ["side", "away"], yields_to = [["main", "along"]], kind = "minor-through" }]\n'
+LIGHT = 'cycle = 60\nphases = [{ from = ["side"], green = 10 }, { from = ["main"], green = 40 }]\n'
+
+
+def demands(network, gate):
+    """The vehicles that come to a gate by the steps from and to of each record."""
+    return [(begin, end, count) for _, (name, begin, end, count) in network.numbered("demand") if name == gate]
+
+
+def test_whole_vehicles_come_with_the_mean_of_the_demand():
+    drawn = [at_random(network_of(NETWORK), [], 1, number) for number in range(1, 21)]
+    rows = [demands(network, "g") for network in drawn]
+    assert all(count == int(count) > 0 and end <= 1800 for row in rows for _, end, count in row)
+    # Where both overlap they add up: 900·0.15 + 900·0.3 = 405 vehicles come in the mean, 20·405 = 8,100 in all, with a deviation of 90.
+    assert sum((end - begin) * count for row in rows for begin, end, count in row) == pytest.approx(8100, abs=270)
+
+
+def test_a_draw_is_by_its_seed_its_number_and_the_names():
+    network = network_of(NETWORK)
+    other = network_of(NETWORK.replace(b"demand,h,0,3600,0.2\n", b""))
+    assert at_random(network, [], 1, 2).content == at_random(network, [], 1, 2).content
+    assert demands(at_random(network, [], 1, 2), "g") == demands(at_random(other, [], 1, 2), "g")
+    assert len({at_random(network, [], seed, number).content for seed, number in ((1, 1), (1, 2), (2, 1))}) == 3
+
+
+def test_gaps_pass_whole_vehicles_as_many_as_the_limit_in_the_mean():
+    drawn = at_random(network_of(NETWORK), [["a"]], 1, 1)
+    assert "a" not in drawn.limits_of
+    closed = sum(end - begin for _, (cell, begin, end, *_) in drawn.numbered("speed") if cell == "a")
+    # 0.1 in each of 3,600 steps are 360 vehicles, each of which takes two steps of 0.5; the deviation is 19 vehicles, 38 steps.
+    assert 3600 - closed == pytest.approx(720, abs=114)
+
+
+def test_the_movements_of_a_lane_have_their_gaps_together():
+    text = NETWORK.replace(b"limit,a,0,3600,0.1\n", b"limit,a,0,3600,0.1\nlimit,b,0,3600,0.3\n")
+    drawn = at_random(network_of(text), [["a", "b"]], 1, 1)
+    spans = {cell: [(begin, end) for _, (name, begin, end, *_) in drawn.numbered("speed") if name == cell] for cell in "ab"}
+    assert spans["a"] == spans["b"]
+    # Of a lane's 0.5 a fourth is of the one.
+    assert drawn.limits_of == {"a": [(0, 3600, 0.125)], "b": [(0, 3600, 0.375)]}
+
+
+@pytest.mark.parametrize("control, by_hand", [
+    # 417 vehicles/h pass by Harders, and of a delay of 18.4 s 5 s are for slowing down and starting, which the model doesn't have.
+    (STOP, at_stop(150, harders(600, 6.5, 4.0), 1.0) - 5),
+    # 1,800·10/60 = 300 pass. In even cycles each waits 50²/(120·(1 - 150/1800)) = 22.7 s, and by coming at random 3.0 s more.
+    (LIGHT, 50 ** 2 / (120 * (1 - 150 / 1800)) + at_signal(150, 300, 1.0))])
+def test_delay_below_capacity_is_that_of_the_manual(tmp_path, recording_program, control, by_hand):
+    (tmp_path / "study.toml").write_text(STUDY + control)
+    frame = seeded(opened(tmp_path / "study.toml"), 4)
+    assert frame[frame.road == "side"].delay_each.mean() == pytest.approx(by_hand, rel=0.2)
+
+
+def test_an_approach_has_its_gate_its_pockets_and_its_movements(tmp_path):
+    pocket = 'pockets = [{ movements = [["side", "away"]], length = "60 m" }]\n'
+    (tmp_path / "study.toml").write_text(STUDY.replace("[[1, 0], [0, 1]]", "[[1, 1], [0, 1]]") + pocket)
+    study = read_study(tmp_path / "study.toml").scenario
+    found = approaches_of(study)
+    assert sorted(name for name, approach in found.items() if approach == "side") == [
+        "gate in-side", "side", "side-along", "side-away", "side-lanes1", "side-pocket1"]
+
+
+def test_who_gives_way_at_a_signal_has_no_gaps_drawn(tmp_path):
+    (tmp_path / "study.toml").write_text(STUDY + LIGHT)
+    made = build(read_study(tmp_path / "study.toml"))
+    assert lanes_giving_way(read_study(tmp_path / "study.toml").scenario.yields, made.units) == []
+
+
+def test_run_tells_means_and_intervals(tool, tmp_path, recording_program):
+    (tmp_path / "study.toml").write_text(STUDY.replace("duration = 3600", "duration = 600") + STOP)
+    called = ("run", tmp_path / "study.toml", "-o", tmp_path / "s.report", "--seeds", "2")
+    status, out, _ = tool(*called)
+    assert status == 0 and "Arrivals at random, 2 draws: " in out and "  side " in out
+    status, _, told = tool(*called, "--every", "0")
+    assert status == 2 and "--seeds: goes with records" in told
