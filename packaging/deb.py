@@ -66,7 +66,7 @@ def lay_control(root: Path, built: Built, work: Path) -> None:
     suggested = [*as_debian_has_them(*map(dependencies, ("dask", "coordinates", "holidays"))), *MAPS]
     put(control / "control", (DEBIAN / "control.in").read_text().format(
         version=built.version, machine=MACHINE, size=size, needed=", ".join(needed),
-        recommended=", ".join([*as_debian_has_them(*map(dependencies, ("calibration", "workbooks"))), PAGES]), suggested=", ".join(suggested)))
+        recommended=", ".join([*as_debian_has_them(*map(dependencies, ("calibration", "workbooks", "browser"))), PAGES]), suggested=", ".join(suggested)))
 
 
 def libraries(root: Path, work: Path) -> str:

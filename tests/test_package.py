@@ -313,7 +313,7 @@ def test_each_package_has_its_licenses(unpacked):
 # What the tools import of others, and can't do without.
 NEEDED = {"click", "matplotlib", "networkx", "numpy", "pandas", "tabulate", "tomlkit"}
 # What a command or an option of theirs takes, and they tell where it is missing.
-TAKEN = {"distributed", "holidays", "openpyxl", "pyarrow", "pyproj", "scipy"}
+TAKEN = {"aiohttp", "distributed", "holidays", "openpyxl", "pyarrow", "pyproj", "scipy"}
 
 
 def test_the_tools_import_no_other_packages_than_are_named():
@@ -345,7 +345,7 @@ def test_the_package_for_debian_names_what_it_needs_as_debian_does(packages):
     names = {field: {name for name, _, _ in them} for field, them in bounds.items()}
     of_trials = {"libgcc-s1"} if BYTES is None else set()  # what checks at run time need
     assert names["Depends"] == {"libc6", "python3", *(f"python3-{name}" for name in NEEDED), *of_trials}
-    assert names["Recommends"] == {"python3-scipy", "python3-openpyxl", "node-d3"}
+    assert names["Recommends"] == {"python3-scipy", "python3-openpyxl", "python3-aiohttp", "node-d3"}
     assert names["Suggests"] == {"python3-distributed", "python3-pyproj", "python3-holidays", "sumo", "osmium-tool"}
     for them in bounds.values():
         for name in {name for name, _, _ in them if name.startswith("python3-")}:

@@ -22,6 +22,7 @@ from .program.interrupt import INTERRUPTS, STATUS, heeded
 
 COMMANDS = {"new": "Write a study to begin with.", "examples": "Copy the examples into a folder.",
             "build": "Make the network file of a study.", "run": "Run a study or a network, and print its page.",
+            "open": "Change a study in a browser and see its results at once.",
             "lint": "Explain the first fault of a network file, or warn.",
             "table": "Write a report as a tidy table, CSV.",
             "travel-time": "Tell the travel times along a road or a route.", "plot": "Draw a report.",

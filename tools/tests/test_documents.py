@@ -12,7 +12,7 @@ from .examples import TOOLS
 TOP = TOOLS.parent
 COMMANDS_IN = {"docs/TUTORIAL.md": 9, "docs/how-to/signals.md": 2, "docs/how-to/closures.md": 4, "docs/how-to/sumo.md": 3,
                "docs/how-to/detectors.md": 3, "docs/how-to/how-sure.md": 1, "docs/how-to/other-ways.md": 2,
-               "docs/how-to/fast.md": 1, "README.md": 8, "tools/README.md": 9, "examples/README.md": 18, "tools/docs/measures.md": 6,
+               "docs/how-to/fast.md": 1, "docs/how-to/open.md": 0, "README.md": 8, "tools/README.md": 9, "examples/README.md": 18, "tools/docs/measures.md": 6,
                "tools/docs/networks.md": 1, "tools/docs/calibration.md": 0, "tools/docs/saved.md": 6,
                "tools/docs/plans.md": 2, "tools/docs/pages.md": 3, "tools/docs/counts.md": 0, "tools/docs/detectors.md": 1, "tools/docs/queues.md": 0, "tools/docs/sweeps.md": 1,
                "tools/docs/python.md": 0, "tools/docs/units.md": 0, "tools/docs/uncertainty.md": 1, "tools/docs/routes.md": 2,
@@ -48,6 +48,9 @@ LEFT_OUT = {
     "./ctm-tools meter STUDY.toml": "tools/docs/saved.md has one of a study with meters",
     "./ctm-tools calibrate STUDY.toml --observed FILE.csv --vary KEY=LOW:HIGH": "its files are a user's",
     "./ctm-tools diagram FILE.csv": "its file is a user's",
+    "./ctm-tools open STUDY.toml": "it runs until it is ended",
+    "./ctm-tools open road.toml": "it runs until it is ended",
+    "./ctm-tools open STUDY.toml STUDY2.toml": "it runs until it is ended",
     "./ctm-tools report town.report --map-behind": "its files are a user's",
 }
 

@@ -21,7 +21,7 @@ HERE = Path(__file__).resolve().parents[1]
 PACKAGES = {"click": "python3-click", "pandas": "python3-pandas", "numpy": "python3-numpy", "tabulate": "python3-tabulate",
             "matplotlib": "python3-matplotlib", "networkx": "python3-networkx", "distributed": "python3-distributed",
             "scipy": "python3-scipy", "pyproj": "python3-pyproj", "holidays": "python3-holidays", "tomlkit": "python3-tomlkit",
-            "openpyxl": "python3-openpyxl"}
+            "openpyxl": "python3-openpyxl", "aiohttp": "python3-aiohttp"}
 
 
 def need_streams() -> None:

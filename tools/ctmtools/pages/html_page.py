@@ -30,7 +30,7 @@ def page_of(reports: Sequence[Report], library: str | None = None, background: B
     """
     data = data_of(reports, background, draws)
     spelled = json.dumps(data, separators=(",", ":"), allow_nan=False).replace("<", "\\u003c")
-    style, scripts = _read("page.css"), {"LIBRARY": _within(library or _library()), "DATA": f"const data = {spelled};",
+    style, scripts = _read("page.css"), {"LIBRARY": _within(library or drawing_library()), "DATA": f"const data = {spelled};",
                                          "SCRIPT": _within("".join(_read(f"{name}.js") for name in SCRIPTS))}
     parts: dict[str, str] = {"TITLE": escape(data["title"]), "STYLE": style, **scripts, "POLICY": _policy(scripts.values(), style, background)}
     return re.sub("(?<=[>\"])(TITLE|STYLE|LIBRARY|DATA|SCRIPT|POLICY)(?=[<\"])", lambda found: parts[found[1]], _read("page.html"))
@@ -56,7 +56,8 @@ def _within(text: str) -> str:
     return text.replace("</", "<\\/").replace("<!--", "<\\u0021--")
 
 
-def _library() -> str:
+def drawing_library() -> str:
+    """The text of d3, as Debian's node-d3 has it."""
     if not DRAWING_LIBRARY.exists():
         raise Problem(f"{DRAWING_LIBRARY}: is missing; Debian has it as node-d3: apt install node-d3")
     return DRAWING_LIBRARY.read_text("utf-8")
