@@ -15,7 +15,7 @@ NUMBERS = {
     "branch --jobs": (None, 1, 256), "branch --value-of-time": (None, 0, None), "calibrate --first": (16, 1, 10_000),
     "calibrate --jobs": (1, 1, 256), "calibrate --runs": (80, 2, 10_000), "calibrate --starts": (3, 1, 100), "choose --rows": (20, 1, None), "compare --rows": (10, 0, None),
     "compare --value-of-time": (None, 0, None), "diagram --lanes": (None, 0.1, None), "diagram --vehicle-length": (None, 0.1, 100), "detectors --lanes": (None, 0.1, None), "meter --gain": (None, 0, None), "meter --value-of-time": (None, 0, None),
-    "draw --runs": (100, 1, 1_000_000), "draw --seed": (1, 0, None),
+    "open --port": (0, 0, 65_535), "draw --runs": (100, 1, 1_000_000), "draw --seed": (1, 0, None),
     "optimise --generations": (30, 1, 100_000), "optimise --population": (48, 5, 10_000), "optimise --seed": (1, 0, 2**32 - 1),
     "plot n-curves --background": (None, 0, None), "run --every": (None, 0, 100_000), "run --workers": (None, 1, 16), "sweep --every": (None, 1, 100_000), "sweep --jobs": (None, 1, 256),
     "sweep --rows": (20, 1, None), "table --value-of-time": (None, 0, None)}
