@@ -106,14 +106,24 @@ def waiting_program(words):
 
 
 def twin():
-    """The program of twin.rs, built where it isn't yet for the processor that the proved one is built for, or None
+    """The program of twin.rs, or None where there is no rustc."""
+    return of_rust("twin")
+
+
+def tuned():
+    """The program of tuned.rs, or None where there is no rustc."""
+    return of_rust("tuned")
+
+
+def of_rust(name):
+    """The program of a source of bench, built where it isn't yet for the processor that the proved one is built for, or None
     where there is no rustc.
     """
     if not shutil.which("rustc"):
         return None
-    source = os.path.join(TOP, "bench/twin.rs")
+    source = os.path.join(TOP, f"bench/{name}.rs")
     with open(source, "rb") as text:
-        name = f"twin-{hashlib.sha256(text.read()).hexdigest()[:16]}"
+        name = f"{name}-{hashlib.sha256(text.read()).hexdigest()[:16]}"
     folder = os.path.join(tempfile.gettempdir(), f"ctm-twin-{os.getuid()}")
     os.makedirs(folder, mode=0o700, exist_ok=True)
     program = os.path.join(folder, name)
