@@ -347,6 +347,6 @@ def test_a_decision_is_told_in_80_words():
     assert not [line for line in told if len(line.split()) > 80]
 
 
-def test_the_book_for_who_carries_the_project_on_stays_short():
+def test_the_book_for_maintainers_stays_short():
     words = [word for page in [*INSIDE, "CONTRIBUTING.md"] for word in read(page).split() if re.search(r"\w", word)]
-    assert len(words) <= 11_500
+    assert len(words) <= 12_900  # with the primer, and the regions that stood in MODEL.md
