@@ -155,7 +155,7 @@ def test_the_lines_on_methods_and_on_studies_in_code_run(top, recording_program,
 @pytest.mark.parametrize("question, answers", [
     # 5,040 vehicles/h come at most, and two lanes carry 4,320, 86 % of these. All of the demand is the lane drop of examples/README.md.
     ("How much less", ["80% of the demand: a queue of 0.00 km", "100% of the demand: a queue of 3.25 km", "No queue up to 85%"]),
-    ("Who needs longest", ["Who sets out at 08:00:00 needs 11.2 min, 5.0 at free flow"]),
+    ("When does the drive", ["A departure at 08:00:00 takes 11.2 min, 5.0 at free flow"]),
     ("What would", ["as it is: 461.25 vehicle-hours, 3.25 km, until 08:40", "341.25 vehicle-hours are saved"])])
 def test_a_question_is_answered_in_twenty_lines_of_python(top, recording_program, question, answers):
     lines = read("tools/docs/python.md").split(f"\n{question}")[1].split("```\n")[1]
