@@ -136,6 +136,22 @@ class Service:
                    movement.lanes, over, movement.control)
 
 
+def queue_courses(report: Report, bounds: Sequence[int]) -> dict[str, Numbers]:
+    """The queue of each approach in m, on its longest lanes: the most from each of some recorded steps to the next."""
+    rows = numpy.searchsorted(report.times, bounds)
+    return {approach.name: numpy.maximum.reduceat(_queue(Stages(report, approach))[:rows[-1]], rows[:-1])
+            for approach in report.units.approaches}
+
+
+def _queue(stages: Stages) -> Numbers:
+    """The queue of an approach on its longest lanes in m, from each recorded step to the next."""
+    parts = stages.parts(slice(None))
+    waits = {stages.last(one): stages.waits_of(place, parts) for place, one in enumerate(stages.movements)}
+    lanes = [sum(waits[cell] for cell in one.beside if cell in waits) / one.lanes for one in stages.movements]
+    longest: Numbers = numpy.max(lanes, axis=0) / stages.report.lasting[:, 0] / stages.jam
+    return numpy.nan_to_num(longest)
+
+
 @dataclass
 class _Span:
     """What is known of all movements in a span: its hours, what comes of each in vehicles/h, and what each waits and loses."""

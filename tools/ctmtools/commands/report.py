@@ -40,11 +40,15 @@ known, in km, and Debian's python3-pyproj."""
 @click.option("--tiles", metavar="URL", help="The server of that map, with {z}, {x} and {y}; by default OpenStreetMap's.")
 @click.option("--draws", metavar="FOLDER", type=click.Path(),
               help="What draw wrote of a network of the reports; by default REPORT.draw beside one, where that is of its network.")
+@click.option("--title", metavar="TEXT", help="The page's title, in place of the studies'.")
+@click.option("--author", metavar="TEXT", help="Who made the page, below its title.")
+@click.option("--logo", metavar="FILE.png|svg|jpg", type=click.Path(), help="A picture at the head of the page.")
 @on_reports
 def command(reports: tuple[str, ...], output: str | None, map_behind: bool, crs: str | None, tiles: str | None, draws: str | None,
-            units: str | None, network: str | None) -> None:
+            title: str | None, author: str | None, logo: str | None, units: str | None, network: str | None) -> None:
     """Make a page for a browser of a report, or of several side by side."""
     from ..pages.background import STREETS, Background
+    from ..pages.content import Heading
     from ..pages.html_page import page_of
 
     target = guard_output(output or Path(reports[0]).stem + ".html")
@@ -54,6 +58,7 @@ def command(reports: tuple[str, ...], output: str | None, map_behind: bool, crs:
         raise click.UsageError("--crs and --tiles go with --map-behind")
     background = Background(crs, tiles or STREETS) if map_behind else None
     text = page_of([read_report(path, units, network) for path in reports], background=background,
-                   draws=None if draws is None else Path(draws))
+                   draws=None if draws is None else Path(draws),
+                   heading=Heading(title, author, None if logo is None else Path(logo)))
     write(target, text)
     tell(f"{target}: {len(text.encode()):,} bytes")

@@ -4,7 +4,9 @@ from __future__ import annotations
 
 import datetime
 import subprocess
+from base64 import b64encode
 from collections.abc import Sequence
+from dataclasses import dataclass
 from functools import lru_cache
 from importlib import import_module
 from pathlib import Path
@@ -12,29 +14,54 @@ from typing import Any
 
 import numpy
 
+from ..files.reading import read_bytes
 from ..problem import Problem
 from ..program.calls import TOP, of_the_package
 from ..report.comparability import names_of
 from ..report.measures import hour_of
 from ..report.queues import SLOW
 from ..report.reading import Report
+from ..report.routes import roads_and_gates as folded
 from ..report.summary import number_text
 from ..texts.text_table import listed
 from .background import Background
 from .draws import draws_of
 from .frames import Frames, bounds_of
 from .networks import is_measured, network_of, roads_of, speed_limits
-from .tables import differing, greens_of, reports_of, table_of, unlike_lines
+from .tables import approaches_of, differing, greens_of, queues_of, reports_of, table_of, unlike_lines
 from .ways import ways_of
 
 NEAR = 0.99  # of the greatest density, from which on a frame counts as one of the densest
+LOGOS = {".png": "image/png", ".jpg": "image/jpeg", ".jpeg": "image/jpeg", ".svg": "image/svg+xml"}
+MOST_LOGO = 1_000_000  # bytes
 MOST_TITLES = 3  # in the title of a page
 SHOWN = {"density": ("vehicles/km", "vehicles in a cell"), "flow": ("vehicles/h", "vehicles in a step"),
          "speed": ("km/h", "cells in a step"), "place": ("km", "cell")}
 
 
+@dataclass(frozen=True)
+class Heading:
+    """What a page's maker says of it: a title in place of the studies', who made it, and a picture, its file."""
+
+    title: str | None = None
+    author: str | None = None
+    logo: Path | None = None
+
+    def logo_data(self) -> str | None:
+        """The picture as an address that holds all of it; the problem of a file that is none, or a large one."""
+        if self.logo is None:
+            return None
+        kind = LOGOS.get(self.logo.suffix.lower())
+        if kind is None:
+            raise Problem(f"--logo {self.logo}: expected a picture, {', '.join(LOGOS)}")
+        content = read_bytes(self.logo)
+        if len(content) > MOST_LOGO:
+            raise Problem(f"--logo {self.logo}: has {len(content):,} bytes, and a page takes {MOST_LOGO:,}")
+        return f"data:{kind};base64,{b64encode(content).decode()}"
+
+
 def data_of(reports: Sequence[Report], background: Background | None = None, draws: Path | None = None,
-            names: Sequence[str] | None = None) -> dict[str, Any]:
+            heading: Heading | None = None, names: Sequence[str] | None = None) -> dict[str, Any]:
     """What the page shows: networks, and for each report its frames, the tables, and where the page opens.
 
     `draws` is the folder of draws of a report's network, by default one that stands beside a report. `names` are what the reports
@@ -51,14 +78,16 @@ def data_of(reports: Sequence[Report], background: Background | None = None, dra
         network = network_of(report, measured, place)
         if network not in networks:
             networks.append(network)
-        shown.append({"network": networks.index(network), "limits": speed_limits(report), **own.data()})
-    return {"title": _title(reports), "subtitle": _subtitle(reports),
+        shown.append({"network": networks.index(network), "limits": speed_limits(report), "queues": queues_of(report, bounds), **own.data()})
+    heading = heading or Heading()
+    return {"title": heading.title or _title(reports), "author": heading.author or "", "logo": heading.logo_data(), "subtitle": _subtitle(reports),
             "provenance": provenance(reports), "notes": _notes(reports, bounds), "names": names, "slow": SLOW,
             "measured": measured, "hour": hour_of(first), "units": _units(first, measured),
             "schematic": not first.units.points, "times": _labels(first, bounds), "clock": _clock(first, bounds),
             "networks": networks, "reports": shown, "opening": opening(frames),
             "tables": {"roads": table_of(reports), "cells": differing(reports, names), "told": unlike_lines(reports, names),
-                       "reports": reports_of(reports, names) if len(reports) > 1 else None, "greens": greens_of(reports, names)},
+                       "reports": reports_of(reports, names) if len(reports) > 1 else None, "greens": greens_of(reports, names),
+                       "approaches": approaches_of(reports, names)},
             "ways": ways_of(reports), "draws": draws_of(reports, names, draws), "background": background.data() if background else None}
 
 
@@ -74,13 +103,22 @@ def _need_alike(reports: Sequence[Report]) -> None:
 
 
 def opening(frames: Sequence[Frames]) -> dict[str, Any]:
-    """Where the page opens: on the road with the greatest delay in any of the reports, at the time of its greatest density.
+    """Where the page opens: on the road with the greatest delay in any of the reports, also before its stop line, at the time of its
+    greatest density.
 
     Of several such times it is the one at which most vehicles are on the road; its cell is that with the most delay. Of roads
     without delay it is the one to whose cells most vehicles came.
     """
     roads = [(i, road, cells) for i, own in enumerate(frames) for road, cells in roads_of(own.report).items()]
-    i, road, cells = max(roads, key=lambda row: tuple(frames[row[0]].report.cells.loc[row[2], ["wait", "come"]].sum()))
+    whole = [folded(own.report) for own in frames]
+
+    def costs(row: tuple[int, str, list[str]]) -> tuple[float, float]:
+        """The delay of a road with the cells before its stop line, and who came to it."""
+        i, road, cells = row
+        found = frames[i].report.cells
+        return float(found.wait[whole[i].get(road, cells)].sum()), float(found.come[cells].sum())
+
+    i, road, cells = max(roads, key=costs)
     own, waits = frames[i], frames[i].report.cells.wait
     density = own.density[:, own.report.cells.index.get_indexer(cells)]
     lengths = numpy.array([(own.report.units.length(cell) if own.measured else None) or 1.0 for cell in cells])

@@ -32,6 +32,7 @@ function drawCurves() {
 // Where a cell is, in words.
 function placeText(cell, long) {
   if (cell.kind !== "road") return `${cell.kind} ${cell.name}`;
+  if (cell.place) return cell.place;
   if (cell.junction) return `${long ? "Cell " : ""}${cell.name}, ${cell.junction}`;
   const way = `${data.units.place} ${+cell.from.toFixed(3)} to ${+cell.to.toFixed(3)}`;
   return cell.road ? `${long ? "Cell " : ""}${cell.name}, road ${cell.road}, ${way}` : `Cell ${cell.name}`;

@@ -13,33 +13,38 @@ from pathlib import Path
 from ..problem import Problem
 from ..report.reading import Report
 from .background import Background
-from .content import data_of
+from .content import Heading, data_of
 
 HERE = Path(__file__).resolve().parent
 DRAWING_LIBRARY = Path("/usr/share/nodejs/d3/dist/d3.min.js")
 # The files of the script in the order in which they stand in the page; the last one draws what the others define.
-SCRIPTS = ("values", "view", "colours", "clock", "drawing", "tiles", "names", "map", "space", "curves", "ways", "draws",
+SCRIPTS = ("values", "view", "colours", "clock", "drawing", "tiles", "names", "map", "space", "curves", "queues", "ways", "draws",
            "hover", "table", "play", "print", "page")
 
 
 def page_of(reports: Sequence[Report], library: str | None = None, background: Background | None = None,
-            draws: Path | None = None) -> str:
+            draws: Path | None = None, heading: Heading | None = None) -> str:
     """The page of reports as HTML; `library` is the text of d3, by default that of Debian's node-d3.
 
     `draws` is the folder of draws of a report's network, by default one that stands beside a report.
     """
-    data = data_of(reports, background, draws)
+    data = data_of(reports, background, draws, heading)
     spelled = json.dumps(data, separators=(",", ":"), allow_nan=False).replace("<", "\\u003c")
     style, scripts = _read("page.css"), {"LIBRARY": _within(library or drawing_library()), "DATA": f"const data = {spelled};",
                                          "SCRIPT": _within("".join(_read(f"{name}.js") for name in SCRIPTS))}
-    parts: dict[str, str] = {"TITLE": escape(data["title"]), "STYLE": style, **scripts, "POLICY": _policy(scripts.values(), style, background)}
+    parts: dict[str, str] = {"TITLE": escape(data["title"]), "STYLE": style, **scripts, "POLICY": _policy(scripts.values(), style, _pictures(background, data["logo"]))}
     return re.sub("(?<=[>\"])(TITLE|STYLE|LIBRARY|DATA|SCRIPT|POLICY)(?=[<\"])", lambda found: parts[found[1]], _read("page.html"))
 
 
-def _policy(scripts: Iterable[str], style: str, background: Background | None) -> str:
+def _pictures(background: Background | None, logo: str | None) -> str:
+    """Where the pictures of a page may come from: the server of the map behind it, and the page itself, where it has a logo."""
+    return " ".join(filter(None, [background.origin if background else None, "data:" if logo else None]))
+
+
+def _policy(scripts: Iterable[str], style: str, pictures: str) -> str:
     """What the browser may run and load: the page's own scripts and style, by their checksums, and the tiles of a map behind it."""
     terms = {"default-src": "'none'", "script-src": " ".join(map(_checksum, scripts)), "style-src": _checksum(style),
-             **({"img-src": background.origin} if background else {}), "base-uri": "'none'", "form-action": "'none'"}
+             **({"img-src": pictures} if pictures else {}), "base-uri": "'none'", "form-action": "'none'"}
     return "; ".join(f"{name} {allowed}" for name, allowed in terms.items())
 
 

@@ -47,6 +47,8 @@ def _cell(report: Report, cell: str, line: Line, parts: Mapping[str, str], numbe
     row = report.units.cells.get(cell, {})
     found: dict[str, Any] = {"name": cell, "kind": report.need_network().kinds[cell],
                              "line": [[round(x, 5), round(y, 5)] for x, y in line]}
+    if cell in report.units.within:
+        found["place"] = place_of(report, cell)
     if cell in parts:
         found["junction"] = parts[cell]
     elif row:
@@ -56,6 +58,18 @@ def _cell(report: Report, cell: str, line: Line, parts: Mapping[str, str], numbe
     if number is not None:
         return {**found, "from": number, "to": number + 1}
     return {**found, "from": round(row.get("from_km", 0), 6), "to": round(row.get("to_km", 0), 6)}
+
+
+def place_of(report: Report, cell: str) -> str:
+    """A cell as the page names it: one that a junction made by the road and the movement that drive through it."""
+    road = report.units.within.get(cell)
+    if road is None:
+        return cell
+    ways = [one.into for approach in report.units.approaches for one in approach.movements if one.cells and one.cells[-1] == cell]
+    if ways:
+        return f"{road}, before the stop line, to {ways[0]}"
+    parting = any(cell in one.cells for approach in report.units.approaches for one in approach.movements)
+    return f"{road}, where its movements part" if parting else f"{road}, where movements join"
 
 
 def speed_limits(report: Report) -> list[dict[str, Any]]:

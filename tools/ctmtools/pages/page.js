@@ -20,6 +20,7 @@ function show() {
   drawMap();
   drawSpace();
   drawCurves();
+  drawQueues();
   drawWays();
   drawDraws();
   fitTable();
@@ -60,7 +61,9 @@ function see({ report, against }) {
   drawTable();
   show();
 }
-for (const id of ["title", "subtitle", "provenance", "notes"]) byId(id).textContent = data[id];
+byId("logo").hidden = !data.logo;
+if (data.logo) byId("logo").src = data.logo;
+for (const id of ["title", "author", "subtitle", "provenance", "notes"]) byId(id).textContent = data[id];
 const narrow = matchMedia("(max-width: 600px)");
 const tellOrigin = () => { byId("origin").open = !narrow.matches; };
 narrow.addEventListener("change", tellOrigin);

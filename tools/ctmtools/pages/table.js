@@ -80,7 +80,7 @@ function drawPlain(id, { columns: heads, rows }) {
   const table = d3.select(`#${id}`);
   table.append("thead").append("tr").selectAll("th").data(heads).join("th").text(head => head);
   table.append("tbody").selectAll("tr").data(rows).join("tr").selectAll("td").data(row => row).join("td")
-    .text((entry, i) => i ? told(entry, 2) : entry);
+    .text((entry, i) => i && typeof entry !== "string" ? told(entry, 2) : entry);
 }
 // For each report a head and a plain table of what is lost at fixed greens.
 function drawGreens() {
@@ -89,8 +89,17 @@ function drawGreens() {
   boxes.append("div").attr("class", "scroll").append("table").attr("id", (_, i) => `greens-${i}`);
   greens.forEach((green, i) => drawPlain(`greens-${i}`, green));
 }
+// For each report the tables of its approaches and movements, which fold; the first one is open.
+function drawApproaches() {
+  const tables = data.tables.approaches, boxes = d3.select("#approaches").selectAll("details").data(tables).join("details");
+  boxes.property("open", (_, i) => !i);
+  boxes.append("summary").append("h2").text(table => table.head);
+  boxes.append("div").attr("class", "scroll").append("table").attr("id", (_, i) => `approaches-${i}`);
+  tables.forEach((table, i) => drawPlain(`approaches-${i}`, table));
+}
 function drawTables() {
   drawTable();
+  drawApproaches();
   drawGreens();
   const { reports, cells, told: lines } = data.tables;
   byId("compared").hidden = !reports;

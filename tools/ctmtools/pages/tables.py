@@ -7,17 +7,23 @@ from typing import TYPE_CHECKING, Any
 
 import numpy
 
+from ..approaches.by_approach import by_approach, queue_courses
 from ..report.comparability import mismatches, other_lanes_and_speeds
 from ..report.comparing import compare, side_by_side
 from ..report.queues import standing
 from ..report.reading import Report
+from ..report.routes import roads_and_gates as folded
 from ..report.travel import road_times
 from ..yielding.messages import AT_GREENS, HEADS, green_rows
-from .networks import is_measured, junctions_of, roads_of
+from .networks import is_measured, junctions_of, place_of, roads_of
 
 if TYPE_CHECKING:
     import pandas
 
+SERVICE = {"demand": "demand, vehicles/h", "capacity": "capacity, vehicles/h", "ratio": "demand by capacity", "delay_even": "even delay, s",
+           "delay_random": "at random, s", "delay_each": "control delay, s", "level": "level of service", "queue": "mean queue, m",
+           "longest_queue": "longest queue, m", "lanes": "lanes", "over_pocket": "beyond the pocket, vehicles"}
+MOST_COURSES = 6  # of approaches so many have their queue drawn over time
 MOST_CELLS = 10  # of those that differ so many are told
 LEAST_CHANGE = 0.005  # of delay or of vehicles that left, from which on a cell is one that differs, as `compare` has it
 
@@ -42,10 +48,17 @@ def table_of(reports: Sequence[Report]) -> dict[str, Any]:
 
 
 def parts_of(report: Report) -> dict[str, list[str]]:
-    """The cells of each road, junction and gate, and of what belongs to none of them, each cell once."""
+    """The cells of each road, junction and gate, and of what belongs to none of them, each cell once.
+
+    Those that a junction made belong to the road before its stop line, or to the way out, where the units name it.
+    """
     kinds = report.need_network().kinds
     gates = {f"gate {cell}": [cell] for cell, kind in kinds.items() if kind == "gate"}
-    parts = {**roads_of(report), **junctions_of(report), **gates}
+    made, within = folded(report), report.units.within
+    gates = {name: made.get(name, cells) for name, cells in gates.items()}
+    junctions = {name: [cell for cell in cells if cell not in within] for name, cells in junctions_of(report).items()}
+    parts = {**{road: made.get(road, cells) for road, cells in roads_of(report).items()},
+             **{name: cells for name, cells in junctions.items() if cells}, **gates}
     told = {cell for cells in parts.values() for cell in cells}
     rest = [cell for cell, kind in kinds.items() if cell not in told and (kind != "exit" or report.cells.wait[cell] > 0)]
     return {**parts, **({"other cells": rest} if rest else {})}
@@ -59,7 +72,7 @@ def _rows(report: Report) -> dict[str, Figures]:
         ends = [cell for cell in cells if not own.intersection(network.graph.successors(cell))] or cells[-1:]
         gate = all(network.kinds[cell] != "road" for cell in cells)
         gone = float(report.cells.gone[ends].sum())
-        length = None if gate or name in within else _length(report, cells)
+        length = None if gate or name in within else _length(report, report.units.roads.get(name, cells))
         found[name] = _figures(report, float(report.cells.wait[cells].sum()), gone, length,
                                None if gate else queued[cells], travel.get(name))
     return found
@@ -123,7 +136,7 @@ def differing(reports: Sequence[Report], names: Sequence[str]) -> dict[str, Any]
     changed = frame[(frame.delay_rise.abs() >= LEAST_CHANGE) | (frame.left_rise.abs() >= LEAST_CHANGE)]
     unit = frame.attrs["units"]["delay"]
     heads = [f"{what}, {of}" for what in (f"delay, {unit}", "vehicles that left") for of in (*names, "rise")]
-    rows = [[str(cell), *(None if value != value else round(float(value), 6) for value in row)]
+    rows = [[place_of(reports[0], str(cell)), *(None if value != value else round(float(value), 6) for value in row)]
             for cell, row in changed[:MOST_CELLS].iterrows()]
     return {"columns": ["cell", *heads], "rows": rows, "count": len(changed)}
 
@@ -144,3 +157,34 @@ def greens_of(reports: Sequence[Report], names: Sequence[str]) -> list[dict[str,
     told = [(name, *green_rows(report)) for name, report in zip(names, reports)]
     of = {name: f"{name}: " if len(names) > 1 else "" for name in names}
     return [{"head": f"{of[name]}{AT_GREENS}: {hours}", "columns": HEADS, "rows": rows} for name, hours, rows in told if rows]
+
+
+def approaches_of(reports: Sequence[Report], names: Sequence[str]) -> list[dict[str, Any]]:
+    """For each report with approaches a head, and a row for each approach and movement, the greatest control delay first."""
+    of = {name: f"{name}: " if len(names) > 1 else "" for name in names}
+    return [{"head": f"{of[name]}{head}", **_service(report, by)} for report, name in zip(reports, names)
+            if report.units.known and report.units.approaches for by, head in (("approach", "Approaches"), ("movement", "Movements"))]
+
+
+def queues_of(report: Report, bounds: Sequence[int]) -> list[dict[str, Any]]:
+    """The queues over time of the approaches where they grow longest, in m, frame by frame."""
+    if not report.units.known or not report.units.approaches:
+        return []
+    courses = sorted(queue_courses(report, bounds).items(), key=lambda row: -float(row[1].max()))
+    return [{"name": name, "metres": [round(float(value), 1) for value in course]} for name, course in courses[:MOST_COURSES]]
+
+
+def _service(report: Report, by: str) -> dict[str, Any]:
+    """The columns and rows of a report's approaches, or of their movements."""
+    frame = by_approach(report, by=by).sort_values("delay", ascending=False, kind="stable")
+    columns = [name for name in SERVICE if name in frame]
+    titles = frame.approach + (" to " + frame.movement if by == "movement" else "")
+    rows = [[title, *(_plain(value) for value in row)] for title, row in zip(titles, frame[columns].itertuples(index=False))]
+    return {"columns": [by, *(SERVICE[name] for name in columns)], "rows": rows}
+
+
+def _plain(value: Any) -> Any:
+    """A value as the page has it: none where it is lacking or without an end, and amounts to a thousandth."""
+    if isinstance(value, str):
+        return value
+    return round(float(value), 3) if numpy.isfinite(value) else None
