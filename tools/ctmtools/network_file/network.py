@@ -177,6 +177,8 @@ class Network:
     def left_freely(self, cells: Iterable[str], entered: Numbers) -> Numbers:
         """When those who enter the first of some cells at some moments leave the last one at free flow, by the limits in force."""
         moments = entered
+        if not self.paces:
+            return moments + len(list(cells))
         for cell in cells:
             moments = self.paces[cell].left(moments) if cell in self.paces else moments + 1
         return moments

@@ -8,6 +8,7 @@ from __future__ import annotations
 
 from collections.abc import Sequence
 from dataclasses import dataclass
+from itertools import groupby
 from typing import TYPE_CHECKING
 
 import numpy
@@ -70,9 +71,7 @@ def trips(report: Report, cells: Sequence[str]) -> Trips:
     entered = (recorded[:-1] + recorded[1:]) / 2
     enough = vehicles >= LEAST
     entered, vehicles = entered[enough], vehicles[enough]
-    moments = entered
-    for cell in cells:
-        moments = _left(report, cell, moments)
+    moments = _followed(report, cells, entered)
     free = report.need_network().left_freely(cells, entered) - entered if report.network else numpy.full(len(entered), len(cells))
     return Trips(entered, vehicles, moments - entered, free)
 
@@ -84,13 +83,28 @@ def _arrivals(report: Report, cell: str) -> Numbers:
     return arrivals
 
 
+def _followed(report: Report, cells: Sequence[str], entered: Numbers) -> Numbers:
+    """When those leave the last of some cells that enter the first one at some moments; lacking where they don't.
+
+    Cells in which nobody waited are passed together, a step in each, where each step is recorded.
+    """
+    exact, last, moments = bool((report.lasting == 1).all()), float(report.times[-1]), entered
+    free = report.amounts.wait[report.places(cells)] == 0
+    for is_free, group in groupby(zip(cells, free.tolist()), key=lambda row: exact and row[1]):
+        if is_free:
+            moments = moments + len(list(group))
+            moments = numpy.where(moments > last, numpy.nan, moments)
+            continue
+        for cell, _ in group:
+            moments = _left(report, cell, moments)
+    return moments
+
+
 def _left(report: Report, cell: str, entered: Numbers) -> Numbers:
     """When those leave a cell that enter it at some moments, in steps; lacking where they don't."""
     recorded, place = numpy.asarray(report.times, dtype=float), report.place(cell)
     # Nobody passes a cell in less than a step, and no moment is known behind the last one.
     soonest = numpy.where(entered + 1 > recorded[-1], numpy.nan, entered + 1)
-    if report.amounts.wait[place] == 0 and (report.lasting == 1).all():
-        return soonest
     departed = report.records.left[:, place] / PARTS
     numbers = numpy.interp(entered, recorded, _arrivals(report, cell)) - DUST
     left, = left_at(recorded, departed[None], numbers[None])

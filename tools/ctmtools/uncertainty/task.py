@@ -7,10 +7,10 @@ from typing import Any
 
 import numpy
 
-from ..many_runs.task import Task, ran, study
+from ..many_runs.task import Ran, Task, ran, study
 from ..problem import Problem
 from ..report.routes import roads_and_gates
-from ..report.queues import standing
+from ..report.queues import stands
 from ..report.reading import Report
 from ..report.travel import cell_before, chain_of, trips
 from ..study.plan import Closure
@@ -49,19 +49,28 @@ def measure(task: DrawTask) -> dict[str, Any]:
     in min, by road and route; `past` tells whether a queue stood before each place; `network` is the checksum of the network.
     """
     made = study(task.plan)
-    closures = _closures(task, task.first) if task.first else []
+    first = _first(task) if task.first else None
+    closures = first.closures if first else []
     made.closures += closures
-    run = ran(made, task.plan)
+    run = first.run if first and not closures and task.first == task.plan else ran(made, task.plan)
     run.report.need_records()
     return {**figures(run.report, task.asked), "incidents": len(closures), "network": run.checksum, "rounded": run.notes}
 
 
-def _closures(task: DrawTask, first: Task) -> list[Closure]:
-    """The closures of a draw's incidents, the same for each plan."""
-    made = study(first)
-    report = ran(made, first).report
-    report.need_records()
-    return happened(task.incidents, report, made, task.seed, task.number)
+@dataclass(frozen=True)
+class _First:
+    """The run of a draw's first plan without incidents, and the closures of those that happen, the same for each plan."""
+
+    run: Ran
+    closures: list[Closure]
+
+
+def _first(task: DrawTask) -> _First:
+    assert task.first is not None  # it is asked for where there may be incidents
+    made = study(task.first)
+    run = ran(made, task.first)
+    run.report.need_records()
+    return _First(run, happened(task.incidents, run.report, made, task.seed, task.number))
 
 
 def figures(report: Report, asked: Asked) -> dict[str, Any]:
@@ -73,11 +82,12 @@ def figures(report: Report, asked: Asked) -> dict[str, Any]:
         minutes = (report.units.step or 0) / 60
         travel[name] = _told(arrived.mean * minutes)
         free[name] = (arrived.mean_free if len(arrived.free) else len(cells)) * minutes
-    stands = standing(report)
-    rows = numpy.flatnonzero(stands.to_numpy().any(axis=1))
+    queued = stands(report)
+    rows = numpy.flatnonzero(queued.any(axis=1))
     last = float(report.times[rows[-1] + 1] * (report.units.step or 0)) if len(rows) else None
-    past = {place: bool(stands[_cell_before(report, place)].any()) for place in asked.places}
-    delays = {name: float(report.units.hours(report.cells.wait[cells].sum())) for name, cells in roads_and_gates(report).items()}
+    past = {place: bool(queued[:, report.place(_cell_before(report, place))].any()) for place in asked.places}
+    delays = {name: float(report.units.hours(float(report.amounts.wait[report.places(cells)].sum())))
+              for name, cells in roads_and_gates(report).items()}
     return {DELAY: report.delay_vehicle_hours, "left_vehicles": float(report.sums.left),
             "inside_vehicles": float(report.sums.inside), "last_queue_s": last, "delays": delays, "travel": travel,
             "free": free, "past": past}
