@@ -1,7 +1,5 @@
 """A map of OpenStreetMap as streets: cut by osmium, made a network by SUMO's netconvert, and read as one of SUMO."""
 
-from __future__ import annotations
-
 import os
 import re
 import shutil
@@ -198,7 +196,7 @@ class Reader:
     def _tell_signals(self) -> None:
         """Says which program each signal has, and which signals of the map have none."""
         by_node = self._by_node()
-        controlled = {node for node in by_node if node in self.streets.programs}
+        controlled = [node for node in by_node if node in self.streets.programs]
         kept: set[str] = set()
         for node in controlled:
             cycle = self.streets.programs[node].cycle
