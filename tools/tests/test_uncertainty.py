@@ -1,6 +1,7 @@
 """What is uncertain: distributions against scipy's, draws that depend on seed, number and key alone, and entries that are refused."""
 
 from fractions import Fraction
+from types import SimpleNamespace
 
 import numpy
 import pandas
@@ -10,6 +11,7 @@ from scipy import stats
 from ctmtools.problem import Problem
 from ctmtools.study.reading import read_scenario, read_values
 from ctmtools.study.keys import gate_of_factor
+from ctmtools.report.travel import trips
 from ctmtools.study.distribution import Given, Lognormal, Normal, Triangular, Uniform
 from ctmtools.uncertainty.incident import drawn, happened
 from ctmtools.uncertainty.reliability import (DELAY, TRAVEL, buffer_index, of_mean, of_percentile, of_probability, planning_time_index,
@@ -17,7 +19,8 @@ from ctmtools.uncertainty.reliability import (DELAY, TRAVEL, buffer_index, of_me
 from ctmtools.uncertainty.plan import with_drawn
 from ctmtools.uncertainty.messages import plan_lines
 from ctmtools.uncertainty.results import Draws
-from ctmtools.uncertainty.task import Asked, figures
+from ctmtools.uncertainty import task as draw_task
+from ctmtools.uncertainty.task import Asked, DrawTask, figures, measure
 from ctmtools.study.uncertainty import Varying
 
 from .corridor import corridor
@@ -217,3 +220,29 @@ def test_too_many_incidents_are_told(tmp_path, report):
     found = uncertain(tmp_path, 'incidents = "m"\nrate = 12_000\nduration = "20 min"\nlanes = 1', base=(EXAMPLES / "bottleneck.toml").read_text())
     with pytest.raises(Problem, match="1,161 incidents in a run; it is for a million vehicle-km"):
         happened(found.incidents, report("bottleneck"), read_scenario(EXAMPLES / "bottleneck.toml"), 1, 1)
+
+
+@pytest.mark.parametrize("happening, same, wanted", [([], True, 1), ([], False, 2), (["one"], True, 2)])
+def test_a_draw_in_which_no_incident_happens_is_run_once(happening, same, wanted, monkeypatch, tmp_path):
+    report, runs = reported(corridor(tmp_path)), []
+
+    def ran(made, one):
+        runs.append(list(made.closures))
+        return SimpleNamespace(report=report, checksum="", notes="")
+
+    monkeypatch.setattr(draw_task, "study", lambda one: SimpleNamespace(closures=[]))
+    monkeypatch.setattr(draw_task, "ran", ran)
+    monkeypatch.setattr(draw_task, "happened", lambda *_: happening)
+    found = measure(DrawTask("plan", "plan" if same else "first", ("incidents",), 1, 1, Asked()))
+    # Where one happens, or another plan is the first, the first is run without closures and then the plan with them.
+    assert len(runs) == wanted and runs[-1] == happening and found["incidents"] == len(happening)
+
+
+def test_who_passes_free_cells_needs_a_step_for_each(tmp_path):
+    # At 90 km/h a cell is 250 m, the way of a step of 10 s; who would arrive behind the last step hasn't arrived.
+    report = reported(corridor(tmp_path, demand='[["06:00", "06:30", 1440]]'))
+    cells = list(report.units.roads["m"])
+    found = trips(report, cells)
+    arrived = found.of(~numpy.isnan(found.steps))
+    assert len(arrived.steps) and arrived.steps == pytest.approx(numpy.full(len(arrived.steps), len(cells)), abs=0.01)
+    assert numpy.isnan(found.steps).sum() == (found.entered + len(cells) > report.times[-1]).sum()

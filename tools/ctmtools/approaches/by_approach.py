@@ -1,4 +1,4 @@
-"""A report by approach or by movement: demand, capacity, control delay, level of service and queues, as the Highway Capacity Manual has them."""
+"""A report by approach or by movement as the Highway Capacity Manual has it: demand, capacity, control delay, service, queues."""
 
 from __future__ import annotations
 

@@ -32,7 +32,8 @@ def page_of(reports: Sequence[Report], library: str | None = None, background: B
     spelled = json.dumps(data, separators=(",", ":"), allow_nan=False).replace("<", "\\u003c")
     style, scripts = _read("page.css"), {"LIBRARY": _within(library or drawing_library()), "DATA": f"const data = {spelled};",
                                          "SCRIPT": _within("".join(_read(f"{name}.js") for name in SCRIPTS))}
-    parts: dict[str, str] = {"TITLE": escape(data["title"]), "STYLE": style, **scripts, "POLICY": _policy(scripts.values(), style, _pictures(background, data["logo"]))}
+    policy = _policy(scripts.values(), style, _pictures(background, data["logo"]))
+    parts: dict[str, str] = {"TITLE": escape(data["title"]), "STYLE": style, **scripts, "POLICY": policy}
     return re.sub("(?<=[>\"])(TITLE|STYLE|LIBRARY|DATA|SCRIPT|POLICY)(?=[<\"])", lambda found: parts[found[1]], _read("page.html"))
 
 
