@@ -1,10 +1,12 @@
 """Pockets at a junction: what they hold up and what they don't, by hand, and the roads of which they are made."""
 
+import numpy
 import pytest
 
 from ctmtools import Problem, build, read_study
 from ctmtools.runs.running import opened
 from ctmtools.study.polylines import cut_at
+from ctmtools.yielding.shared_lanes import SharedLanes, longest_queue
 
 from .plain_reports import reported
 
@@ -153,3 +155,46 @@ def test_a_line_cut_where_a_part_of_it_is_reached(part, before, behind):
 
 def test_fewer_than_two_points_are_no_line():
     assert cut_at([[1.0, 2.0]], 0.5) == ([], [])
+
+
+@pytest.mark.parametrize("room, left, right", [
+    # In lanes of their own 556 of those to the right and 223 of those to the left pass, 779 in all, and in one lane 1/(0.5/556 + 0.5/223)
+    # = 318. By the manual 100 of each would have queues of 100/3600·(12.9 and 34.0) = 0.36 and 0.94, so room for two is enough; for one it
+    # is half of the way, 549. Each movement has half of that, and no more than from a lane of its own.
+    (0, 159, 159), (1, 223, 274), (2, 223, 389)])
+def test_a_flare_passes_as_its_room_lets(room, left, right):
+    flows, passing = ({"l": numpy.array([100.0]), "r": numpy.array([100.0])}, {"l": numpy.array([223.0]), "r": numpy.array([556.0])})
+    lanes = SharedLanes(1, ["l", "r"], 1800.0, room)
+    assert lanes.flared("l", flows, passing) * passing["l"] == pytest.approx(left, abs=1)
+    assert lanes.flared("r", flows, passing) * passing["r"] == pytest.approx(right, abs=1)
+
+
+def test_the_queues_that_a_flare_has_to_hold():
+    assert longest_queue(numpy.array([100.0, 100.0]), numpy.array([223.0, 556.0])).tolist() == [2, 1]
+
+
+def test_a_flare_passes_more_out_of_a_side_street(tmp_path, recording_program):
+    path = tmp_path / "study.toml"
+    text = STUDY.format(pockets="FLARE", shares="[1, 0, 1]", lasting=900, lanes=1, more="", limit="").replace(
+        'from = ["south"]', 'from = ["south", "east"]').replace("shares = [[1, 0, 1]]", "shares = [[1, 0, 1], [0, 1, 0]]").replace(
+        "[gates]", 'east = { length = "100 m", lanes = 1 }\n[gates]\nfrom-east = { into = "east", demand = 700 }').replace("demand = 720", "demand = 200")
+    yields = ('yields = [{ movement = ["south", "right"], yields_to = [["east", "ahead"]], kind = "minor-right" },\n'
+              '  { movement = ["south", "left"], yields_to = [["east", "ahead"]], kind = "minor-left" }]\n')
+    passed = []
+    for flare in ("", 'flares = [{ from = "south", vehicles = 1 }]\n'):
+        path.write_text(text.replace("FLARE", yields + flare))
+        passed.append(sum(float(one.capacities[-1].flow) for one in opened(path).settled.study.yields))
+    # 700·exp(-700·6.2/3600)/(1 - exp(-700·3.3/3600)) = 443 and 700·exp(-700·7.1/3600)/(1 - exp(-700·3.5/3600)) = 357: in one lane 395. By the
+    # manual those to the left would wait 10.1 + 3.9 + 5 s each in a lane of their own, so 0.53 of them at once, and need room for 1.53, 2:
+    # room for one is half of the way to 800, 598.
+    assert passed[0] == pytest.approx(395, rel=0.02) and passed[1] == pytest.approx(598, rel=0.02)
+
+
+@pytest.mark.parametrize("flares, told", [
+    ('flares = [{ from = "north", vehicles = 1 }]\n', "junctions[1].flares[1].from: north isn't of this junction, which has south"),
+    (APART + 'flares = [{ from = "south", vehicles = 1 }]\n', "junctions[1].flares[1]: a flare is of an approach without a signal"),
+    ('flares = [{ from = "south", vehicles = 0 }]\n', "junctions[1].flares[1].vehicles: expected a whole number, 1 or more")])
+def test_what_a_flare_cannot_be(tmp_path, flares, told):
+    with pytest.raises(Problem) as found:
+        read_study(study(tmp_path, flares))
+    assert told in str(found.value)

@@ -10,7 +10,7 @@ from ..problem import Problem
 from ..texts.quantities import duration, not_negative, shown, word
 from .entries import Entries, Reader, list_of
 from .plan import Actuation, Crossing, Matrix, Movement, Phase
-from .pockets import check_pockets, pocket
+from .pockets import check_pockets, flare, pocket
 from .precedences import check_precedence, precedence
 from .times import Times
 from .movements import movement_name, movement_road, movements, taken_movements
@@ -35,6 +35,7 @@ def crossing(table: Entries, times: Times, trips: bool = False) -> Crossing:
                      table.take("within", _truth, False), table.place, by_trips)
     phases = table.list("phases")
     found.pockets = [pocket(row, found) for row in table.list("pockets")]
+    found.flares = dict(flare(row, found) for row in table.list("flares"))
     found.yields = [precedence(row, found) for row in table.list("yields")]
     table.done()
     if bool(phases) != (cycle is not None):

@@ -33,6 +33,7 @@ class LaneUse:
         self.giving = [one.way for one in crossing.yields]
         self.lanes = {way: roads[movement_road(crossing, way)].sections[0].lanes for way in self.ways}
         road = roads.get(crossing.sources[approach])
+        self.flare = crossing.flares.get(crossing.sources[approach], 0)
         self.most = road.sections[-1].lanes if road else sum(self.lanes.values())
 
     def groups(self) -> Iterator[Group]:
@@ -59,7 +60,7 @@ class LaneUse:
         asked = sum(1 if other in self.giving else self.lanes[other] for other in together)
         if asked <= left or told and leaves >= max(self.lanes[other] for other in told):
             return None
-        return Lanes(left, self._roads(together))
+        return Lanes(left, self._roads(together), self.flare)
 
     def _told(self, together: list[Movement]) -> tuple[list[Movement], int]:
         """Those of some movements who don't give way, and how many lanes all others leave them."""

@@ -169,10 +169,14 @@ class Precedence:
 
 @dataclass(frozen=True)
 class Lanes:
-    """So many lanes of an approach, and the roads of one cell of the movements that stand in them."""
+    """So many lanes of an approach, and the roads of one cell of the movements that stand in them.
+
+    So many vehicles find room beside each other in the `flare` before the stop line.
+    """
 
     count: int
     roads: list[str]
+    flare: int = 0
 
 
 @dataclass(frozen=True)
@@ -316,6 +320,7 @@ class Crossing:
     by_trips: bool = False
     yields: list[Precedence] = field(default_factory=list)
     pockets: list[Pocket] = field(default_factory=list)
+    flares: dict[str, int] = field(default_factory=dict)  # by road, the vehicles that find room beside others at its end
     approaches: list[str] = field(default_factory=list)
 
     def approach(self, number: int) -> str:

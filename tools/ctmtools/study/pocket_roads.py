@@ -90,6 +90,8 @@ class Parting:
     def _branches(self) -> list[Branch]:
         """The pockets, the longest first, each of which begins a cell or more behind the one before it; and at last what is beside."""
         most = self.road.length - self.cell
+        if most <= 0:
+            raise Problem(f"{self.pockets[0].place}: {self.name} has one cell, and a pocket leaves its approach one; a shorter step makes more")
         found: list[Branch] = []
         for number, one in sorted(enumerate(self.pockets, 1), key=lambda pair: -(pair[1].length or most)):
             length = self._length(one, most)

@@ -1,9 +1,9 @@
-"""Pockets, as a study file says them of a junction: lanes of an approach's last metres for some of its movements."""
+"""Pockets and flares, as a study file says them of a junction: room for some of an approach beside others, at its end."""
 
 from __future__ import annotations
 
 from ..problem import Problem
-from ..texts.quantities import length, whole
+from ..texts.quantities import length, whole, word
 from .entries import Entries
 from .movements import movement_name, taken_movements
 from .plan import Crossing, Pocket
@@ -19,6 +19,17 @@ def pocket(table: Entries, found: Crossing) -> Pocket:
     if lasting == 0:
         raise Problem(f"{table.key('length')}: must be above 0")
     return Pocket(ways, count, lasting, table.place)
+
+
+def flare(table: Entries, found: Crossing) -> tuple[str, int]:
+    """The road of an approach, and how many vehicles find room beside others at its end."""
+    source, room = table.take("from", word), table.take("vehicles", whole)
+    table.done()
+    if source not in found.sources:
+        raise Problem(f"{table.key('from')}: {source} isn't of this junction, which has {', '.join(found.sources)}")
+    if found.cycle is not None:
+        raise Problem(f"{table.place}: a flare is of an approach without a signal; at a signal say a pocket")
+    return source, room
 
 
 def check_pockets(found: Crossing) -> None:

@@ -65,7 +65,12 @@ class Yielding:
             self.of_lane = numpy.where(shares[self.cell] > 0, shares[self.cell], 1.0)
             return rates
         freely = self.mean(numpy.full(self.rates.shape, self.shared.saturation))
-        part = self.shared.part(self.cell, shares, {cell: means.get(cell, freely) for cell in shares})
+        passing = {cell: means.get(cell, freely) for cell in shares}
+        if self.shared.flare:
+            part = self.shared.flared(self.cell, {cell: come_to(report, cell, self.bounds) for cell in shares}, passing)
+            part = numpy.where(shares[self.cell] > 0, part, 1.0)
+        else:
+            part = self.shared.part(self.cell, shares, passing)
         self.of_lane = numpy.where(part < 1, shares[self.cell] * self.shared.count, 1.0)
         return rates * part[:, None]
 
