@@ -91,7 +91,7 @@ export class Boxes {
   move(event) {
     if (!this.held) return;
     const { side, first, before, key, group } = this.held, { time, km, kms } = this.at(event);
-    const { begins, ends } = this.view.page.times, by = snapped(time, begins) - snapped(first.time, begins);
+    const { begins, ends } = this.view.page.times, by = Math.round((time - first.time) / MINUTE) * MINUTE;
     if (side === "new") this.held.now = between(before, first, { time, km }, kms, this.view.page.times);
     else if (side === "all") this.held.now = movedBy(before, by, nearest(before.from + km - first.km, kms) - before.from, kms, begins, ends);
     else this.held.now = widened(before, side, side === "start" || side === "end" ? snapped(time, begins) : nearest(km, kms), begins, ends);

@@ -111,6 +111,8 @@ export class Form {
     place.append(Object.assign(document.createElement("span"), { className: "live-wrong", textContent: fault.line }));
   }
   placeOf(key) {
+    const ofLane = key.startsWith("roads.") && !this.input(key) && this.input(`lane.${key.split(".").pop()}`);  // which holds for all roads
+    if (ofLane) return [ofLane.closest("label"), ofLane];
     for (let names = key.split("."); names.length; names = names.slice(0, -1)) {
       const at = names.join("."), input = this.input(at);
       if (input) return [input.closest("label") || input.closest("fieldset"), input];

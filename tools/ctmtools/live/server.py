@@ -64,7 +64,7 @@ class Server:
             if error.errno == errno.EADDRINUSE:
                 raise Problem(f"--port {port}: is taken by another program; name another one, or none") from None
             raise Problem(f"--port {port}: {reason(error)}") from None
-        self.port = site._server.sockets[0].getsockname()[1]  # type: ignore[union-attr]
+        self.port = int(self._runner.addresses[0][1])
         self._tasks = [asyncio.create_task(self.drawing.follow()), asyncio.create_task(self._watch())]
         self.drawing.ask()
         return f"http://{LOOPBACK}:{self.port}/{self.secret}/"
@@ -132,7 +132,8 @@ class Server:
         self.pages.add(page)
         self._keep_on()
         try:
-            for message in (self.orders.state(), *list(self.drawing.last.values())):
+            known: list[Message] = [self.orders.state(), *self.drawing.last.values()]
+            for message in known:
                 await send_to(page, message)
             async for received in page:
                 if received.type == WSMsgType.TEXT:
