@@ -135,4 +135,3 @@ addEventListener("keydown", event => {
   if (typing && field.dataset.key) field.dispatchEvent(new Event("change"));
   tellNow(key === "s" ? orders.save : key === "y" || event.shiftKey ? orders.redo : orders.undo);
 });
-addEventListener("beforeunload", event => { if (study && !study.saved) event.preventDefault(); });
