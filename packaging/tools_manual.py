@@ -26,7 +26,7 @@ def tools_manual() -> str:
     lines += [".SH NOTES", *paragraphs(tools.epilog), ".SH FILES", ".TP", ".I /usr/share/doc/ctm",
               "The documents and examples of Debian's package. Those of an installation elsewhere are in share/doc/ctm of its folder.",
               ".SH EXIT STATUS",
-              "0 where a command did what it was asked, 2 where a word or a file has a fault, which is told in one line on",
+              "0 where a command did what it was asked, 2 where a word or a file has a fault, which is printed in one line on",
               "standard error.", ".B lint", "ends with status 1 where the file has a fault, and what is interrupted with 130.",
               ".SH SEE ALSO", ".BR ctm (1),", ".BR ctm\\-wait (1)"]
     return HEAD + "\n".join(lines) + "\n"

@@ -482,7 +482,7 @@ def test_one_table_in_many_spellings(tmp_path, content, terms):
     (HEAD + DATED.replace(",3\n", ",1e400\n"), {}, 'line 5, count: expected a count'), (HEAD + DATED, {"separator": ";;"}, "a separator is one character"),
     (HEAD + "a,2019-12-31T06:00Z,1\na,31.12.2019 06:05Z,1\n", {"zone": "Europe/Berlin"}, "line 3, time: a time with a zone has a date such as 2019-12-04"),
     (HEAD + "a,2019-02-30T06:00Z,1\n", {"zone": "Europe/Berlin"}, "line 2, time: is of no date"), (HEAD + "a,2019-12-04 06:00,\n", {"interval": "5 min"}, "has no flow in any row"),
-    (HEAD + "a,23:55,1\na,00:00,2\n", {}, "line 3 is of an earlier time than line 2, and no dates tell of which day"), ("\ufeff", {}, "no column of times"),
+    (HEAD + "a,23:55,1\na,00:00,2\n", {}, "line 3 is of an earlier time than line 2, and no dates say of which day"), ("\ufeff", {}, "no column of times"),
     (HEAD + DATED.replace("2019-12-04 ", ""), {"dates": ["weekdays"]}, "has no dates"), (HEAD + DATED, {"interval": "0 s"}, "an interval is above 0")])
 def test_what_an_adversary_tries(tmp_path, content, terms, told):
     (tmp_path / "d.csv").write_bytes(content.encode())

@@ -261,7 +261,7 @@ def test_a_queue_that_reaches_the_upstream_end_is_told_with_who_wait_behind_it()
     assert spill.most == pytest.approx(read.vehicles.g[219] - (read.left.g[220] - read.left.g[219]))
     line, = [line for line in page(read) if "upstream end" in line]
     assert line == (f"  The queue of c09 reaches the upstream end of the model at {spill.start}: up to {spill.most:,.0f} vehicles "
-                    "wait in the gate g, at 219, so it is longer than told.")
+                    "wait in the gate g, at 219, so it is longer than reported.")
 
 
 def test_a_queue_that_reaches_a_gate_where_vehicles_wait_already_is_told():

@@ -47,7 +47,7 @@ class Triangle:
         if self.high - self.low >= LEAST_SPREAD * (self.jam - self.capacity / self.speed):
             return None
         return (f"warning: most rows of queued traffic lie between {self.low:.0f} and {self.high:.0f} vehicles/km, too near "
-                "together to tell a wave speed and a jam density")
+                "together to determine a wave speed and a jam density")
 
 
 def read_states(names: Names, lanes: float | None = None, wanted: Wanted = Wanted(), length: float | None = None) -> pandas.DataFrame:

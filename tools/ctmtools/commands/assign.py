@@ -45,7 +45,7 @@ Examples:
 
 Written are the study with the shares that came out, NAME.assigned.toml, which `run`, `sweep`, `optimise` and `branch` take,
 its network, its report, the ways of each pair and interval as NAME.assigned.ways.csv, and pictures of the gap and of the ways.
-With several shares of informed drivers a table is told, and written where -o names a CSV file.
+With several shares of informed drivers a table is printed, and written where -o names a CSV file.
 
 The traffic is the program's: one run a round. tools/docs/routes.md has the method, its limits and its sources."""
 
@@ -54,9 +54,9 @@ The traffic is the program's: one run a round. tools/docs/routes.md has the meth
 @click.argument("source", metavar="STUDY.toml", type=click.Path())
 @ALLOW_FILES
 @click.option("--from", "earlier", metavar="OPEN.assigned.toml", type=click.Path(),
-              help="An earlier assignment, whose ways the drivers have.")
+              help="An earlier assignment, whose routes the drivers have.")
 @click.option("--informed", metavar="PART[,PART..]", help="The part of the drivers who choose; else the study's.")
-@click.option("--after", metavar="TIME", help="Only who set out in an interval of choice from then on choose anew.")
+@click.option("--after", metavar="TIME", help="Only drivers who depart in an interval of choice from then on choose anew.")
 @click.option("--gap", default=0.01, show_default=True, type=Finite(0, min_open=True),
               help="The relative gap below which it ends.")
 @click.option("--iterations", default=50, show_default=True, type=click.IntRange(1, 10_000), help="The most rounds.")

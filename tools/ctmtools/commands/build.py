@@ -19,7 +19,7 @@ Examples:
   ctm-tools build examples/bottleneck.toml
   ctm-tools build examples/interchange.toml -o /tmp/interchange.csv
 
-The study's keys are told in tools/README.md. Without -o the network is written into the folder one is in. A file that
+tools/README.md lists the study's keys. Without -o the network is written into the folder one is in. A file that
 these tools haven't made is written over only where -o names it."""
 
 
@@ -31,7 +31,7 @@ these tools haven't made is written over only where -o names it."""
 def command(study: str, output: str | None) -> None:
     """Make the network file of STUDY.toml, and beside it the file of its units, NET.units.json.
 
-    What had to be rounded to whole cells, steps and parts by more than 0.1 % is told: the length or flow asked for
+    What had to be rounded to whole cells, steps and parts by more than 0.1 % is printed: the length or flow asked for
     against that modelled. So is what closures leave where they overlap, and what in the study can hardly be meant.
     """
     found = read_scenario(study)

@@ -46,7 +46,7 @@ missing."""
 @click.option("-o", "--output", metavar="FILE.csv", type=OUTPUT_FILE, help="Write all rows there.")
 @ROWS
 def command(source: str, varied: tuple[str, ...], output: str | None, rows: int) -> None:
-    """Have the program choose among all combinations of varied values, and tell them, the least delay first.
+    """Have the program choose among all combinations of varied values, and list them, the least delay first.
 
     Of equal delays the first combination is the first.
     """

@@ -32,7 +32,7 @@ Examples:
   ctm-tools compare plan-a.report plan-b.report --by movement -o movements.xlsx
   ctm-tools compare plan-a.report plan-b.report -o cells.csv --value-of-time 12
 
-Where ways that `assign` wrote stand beside both, it is told by pair who gained and who lost.
+Where routes that `assign` wrote stand beside both, it prints by pair which drivers gained and which lost.
 
 With --plot both reports need records, and the cells of the route are those that both have."""
 
@@ -43,7 +43,7 @@ MOST_ROADS = 6  # so many roads are told with their travel time
 @click.command(epilog=EPILOG)
 @click.argument("first", metavar="A", type=click.Path())
 @click.argument("second", metavar="B", type=click.Path())
-@click.option("--rows", default=10, show_default=True, type=click.IntRange(0), help="How many cells are told.")
+@click.option("--rows", default=10, show_default=True, type=click.IntRange(0), help="How many cells are listed.")
 @FORCE
 @click.option("-o", "--output", metavar="FILE", type=OUTPUT_FILE,
               help="Write the rows of all cells there, or of all of --by: a workbook, FILE.xlsx, Parquet, else CSV.")

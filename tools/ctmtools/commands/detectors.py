@@ -25,7 +25,7 @@ Examples:
   ctm-tools detectors loops.csv --per interval --speed-unit mph --average median -o day.csv
 
 The format is recognised: PeMS's Station 5-Minute, a row a station and time, a column a station, or a row a vehicle. A
-file that is none of these is told which columns are missing. tools/docs/detectors.md has the formats and the rules."""
+file that is none of these is refused with the columns that are missing. tools/docs/detectors.md has the formats and the rules."""
 
 
 @click.command(epilog=EPILOG)
@@ -35,7 +35,7 @@ file that is none of these is told which columns are missing. tools/docs/detecto
 @FORCE
 @click.option("-o", "--output", metavar="FILE.csv", type=OUTPUT_FILE, help="Where the rows go that are left, in one format.")
 def command(files: tuple[str, ...], output: str | None, **terms: Unpack[DetectorOptions]) -> None:
-    """Read files of detectors, and tell what is in them, what is left out by which rule, and what is missing."""
+    """Read files of detectors, and print what is in them, what is left out by which rule, and what is missing."""
     if output is not None and output in files:
         raise Problem(f"{output}: is one of the files that are read")
     found = read(files, wanted_by(**terms))

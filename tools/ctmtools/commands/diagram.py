@@ -23,7 +23,7 @@ Examples:
   ctm-tools diagram "d04_*.txt.gz" --station 400001 --leave-out all
 
 The file has the columns flow (vehicles/h) and density (vehicles/km), or flow and speed (km/h); or it is in a format of
-tools/docs/detectors.md. What is told are keys of a
+tools/docs/detectors.md. What it prints are keys of a
 study's [lane]."""
 
 

@@ -50,11 +50,11 @@ The runs are kept in FOLDER/runs.csv as they come; called again, draw makes thos
 @click.option("--with", "given", metavar="FILE.toml", type=click.Path(),
               help="What is uncertain, in place of what the study says.")
 @click.option("--route", "routes", metavar="FROM TO", nargs=2, multiple=True,
-              help="Tell the travel time of a route too, from place to place as travel-time has them.")
+              help="Print the travel time of a route too, from place to place as travel-time has them.")
 @click.option("--queue-past", "places", metavar="PLACE", multiple=True,
-              help="Tell how probable it is that a queue passes ROAD.KM.")
+              help="Print how probable it is that a queue passes ROAD.KM.")
 @click.option("--queue-after", "times", metavar="TIME", multiple=True,
-              help="Tell how probable it is that a queue lasts past a clock time.")
+              help="Print how probable it is that a queue lasts past a clock time.")
 @click.option("--until-within", "narrow", metavar="X",
               help="Stop once the 95 % interval of the mean delay, or of the difference, is +-X vehicle-hours, or X%.")
 @JOBS
@@ -65,7 +65,7 @@ The runs are kept in FOLDER/runs.csv as they come; called again, draw makes thos
 def command(sources: tuple[str, ...], runs: int, seed: int, given: str | None, routes: tuple[tuple[str, str], ...],
             places: tuple[str, ...], times: tuple[str, ...], narrow: str | None, jobs: int | None, address: str | None,
             output: str | None, every: int | None) -> None:
-    """Run a study over draws of what is uncertain of it, and tell how delay and travel times lie.
+    """Run a study over draws of what is uncertain of it, and print how delay and travel times are distributed.
 
     Of several plans each gets the same draws, and the second and those behind it are compared with the first draw by draw.
     """

@@ -19,7 +19,7 @@ Examples:
 
   ctm-tools import osm town.osm.pbf --box 11.55,48.13,11.58,48.15 -o town.toml
 
-What can't be kept is told, and stands in the study's notes, which `build` and `run` tell too."""
+What can't be kept is printed, and stands in the study's notes, which `build` and `run` print too."""
 
 OUTPUT = click.option("-o", "--output", metavar="STUDY.toml", type=OUTPUT_FILE, help="Where the study goes.")
 STEP = click.option("--step", default=SUMO["step"], show_default=True, metavar="TIME", help="The length of a step.")
@@ -44,7 +44,7 @@ demand and turning shares by --interval. Streets on which nobody drives are left
               help="A file of vehicles, trips or flows; may be given again.")
 @click.option("--additional", metavar="FILE.add.xml", type=click.Path(), multiple=True,
               help="A file of types, routes, trips or signs that is read before the routes; may be given again.")
-@click.option("--trips", is_flag=True, help="Keep who drives from where to where as trips, for `ctm-tools assign`.")
+@click.option("--trips", is_flag=True, help="Keep how many drive from where to where as trips, for `ctm-tools assign`.")
 @ALLOW_FILES
 @click.option("--taz", metavar="FILE.taz.xml", type=click.Path(), help="With --trips: the districts of matrices.")
 @click.option("--matrix", "matrices", metavar="FILE.od", type=click.Path(), multiple=True,
@@ -101,7 +101,7 @@ and latitude.""")
 @click.option("--box", metavar="WEST,SOUTH,EAST,NORTH", help="The part of the map that is taken, in degrees.")
 @click.option("--roads", metavar="CLASS,..", help="The classes of road that are taken, each with its ramps, as motorway,primary; "
               "else all that cars may use.")
-@click.option("--trips", is_flag=True, help="Ask who drives from where to where, for `ctm-tools assign`, in place of who comes.")
+@click.option("--trips", is_flag=True, help="Ask how many drive from where to where, for `ctm-tools assign`, in place of how many come.")
 @FORCE
 @OUTPUT
 @STEP

@@ -21,12 +21,12 @@ it couldn't be looked at."""
 
 @click.command(epilog=EPILOG)
 @click.argument("network", metavar="NET.csv", type=click.Path())
-@click.option("--all", "complete", is_flag=True, help="Tell every warning, and not only the first few of each kind.")
+@click.option("--all", "complete", is_flag=True, help="Print every warning, and not only the first few of each kind.")
 @click.option("--strict", is_flag=True, help="End with status 1 for a warning too.")
 def command(network: str, complete: bool, strict: bool) -> int:
-    """Say what `ctm check` says of a network file, explain its first fault, and warn of what no refusal covers.
+    """Print what `ctm check` says of a network file, explain its first fault, and warn of what no refusal covers.
 
-    Of the fault are told the line of the file, the field, its value, what was expected, and what may be meant.
+    Of the fault it prints the line of the file, the field, its value, what was expected, and what may be meant.
     """
     findings = examine(read_as(network, "a network"), network, note, read_units(units_path(network)))
     tell(findings.answer)

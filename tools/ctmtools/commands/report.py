@@ -22,12 +22,12 @@ Examples:
 
 The page is one file that needs no network: the map with a slider of time, density, flow or speed over time and place on a
 road, the curves of the cell that is clicked, and a table of roads, junctions and gates that is sorted by a click on its
-heads. Of several reports it shows each, or what it has more than the first, and tells what `compare` tells. Draws of what is
+heads. Of several reports it shows each, or what it has more than the first, and what `compare` prints. Draws of what is
 uncertain are shown with how their delay is distributed. All reports need records; their means are over as many steps as keep
 the page small. It needs Debian's node-d3 when it is made, whose script goes into the page.
 
 With --map-behind a map of OpenStreetMap stands behind the roads wherever the page is looked at with a network connection:
-the browser fetches it, and tells that server which place is looked at. It needs points of the roads in a system that is
+the browser fetches it, and that server learns which place is looked at. It needs points of the roads in a system that is
 known, in km, and Debian's python3-pyproj."""
 
 

@@ -41,7 +41,7 @@ those who give way have gaps at random. Their delay and longest queue stand belo
 
 With --checkpoint the run goes in stretches, and the moment that was reached stands in FILE.saved beside the report. The same
 call goes on from there where the run was ended, by Ctrl-C or otherwise, and takes the file away once the report is written.
-Such a run isn't recorded, so no queues are told; its report is that of --every 0."""
+Such a run isn't recorded, so no queues are listed; its report is that of --every 0."""
 
 
 @click.command(epilog=EPILOG)
@@ -57,10 +57,10 @@ def command(source: str, output: str | None, every: int | None, workers: int | N
             checkpoint: str | None) -> None:
     """Run a study or a network by ctm, write its report with records, and print a page.
 
-    Before the page stands what `build` tells of the study, or the warnings of `lint` of the network. The page has the
+    Before the page stands what `build` prints of the study, or the warnings of `lint` of the network. The page has the
     vehicles that left, the delay, for each queue where it began, how far it reached and when, and when it
     cleared, and what is still inside at the end. Below it stands what vehicles lose at the fixed greens of a study by
-    coming at random, which is no part of the delay. `report`, `table` and `compare` tell it too.
+    coming at random, which is no part of the delay. `report`, `table` and `compare` print it too.
     """
     target = report_target(source, output)
     if checkpoint is not None and every:

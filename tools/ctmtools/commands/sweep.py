@@ -54,7 +54,7 @@ path that it has here."""
 @ROWS
 def command(source: str, varied: tuple[str, ...], jobs: int | None, address: str | None, output: str | None,
             over: tuple[str, ...], every: int | None, rows: int) -> None:
-    """Build and run a study with every combination of varied values, and tell them, the least delay first.
+    """Build and run a study with every combination of varied values, and list them, the least delay first.
 
     Each row has the total delay, the longest queue, the vehicles that left and the mean travel time along the longest route
     from a gate; a run that failed says why.

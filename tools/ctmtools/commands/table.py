@@ -47,7 +47,7 @@ capacity, of an approach that of its busiest lanes), delay_even (s for each vehi
 evenly), delay_random (s, what the Highway Capacity Manual adds where they come at random), delay_each (s, both: the control
 delay), level (of service by it), delay (vehicle-hours), queue and longest_queue (m, on so many lanes), and where there are
 pockets over_pocket (vehicles that they can't hold at once); with --value-of-time cost too.
-With --by lane-group what vehicles lose at fixed greens by coming at random, which is no part of the delay and `run` tells:
+With --by lane-group what vehicles lose at fixed greens by coming at random, which is no part of the delay and `run` prints:
 lane_group, vehicles (that come while no queue stands), part (of those that may pass), lost_each (s), lost (vehicle-hours),
 queue_stands (min); with --value-of-time cost too. It needs fixed greens of a study, and records.
 A workbook, FILE.xlsx, has the units in its first row; FILE.parquet has them in its schema, and needs the Python package

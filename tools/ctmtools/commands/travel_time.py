@@ -42,7 +42,7 @@ step; where the units aren't known, places are cells and times are steps."""
 @FORCE
 @click.option("-o", "--output", metavar="FILE.csv", type=OUTPUT_FILE, help="Write the rows there.")
 @click.option("--plot", "picture", metavar="FILE.png|svg|pdf", type=OUTPUT_FILE,
-              help="Draw the travel time of each who sets out, over time.")
+              help="Draw the travel time by departure, over time.")
 @on_reports
 def command(report: str, road: str | None, begin: str | None, end: str | None, every: str | None, output: str | None,
             picture: str | None, units: str | None, network: str | None) -> None:

@@ -46,7 +46,7 @@ def _check_order(files: Files, frame: pandas.DataFrame) -> None:
     if back.any():
         row = rows.loc[back.idxmax()]
         before = files.where(rows.loc[back.idxmax() - 1])
-        raise Problem(f"{files.place(row)} is of an earlier time than {before}, and no dates tell of which day")
+        raise Problem(f"{files.place(row)} is of an earlier time than {before}, and no dates say of which day")
 
 
 def _said(files: Files) -> float:

@@ -36,7 +36,7 @@ def page(report: Report) -> Iterator[str]:
         yield from _queues(report, queues)
         yield from _travel(report)
     else:
-        yield "No queues are told, since the run has no records."
+        yield "No queues are listed, since the run has no records."
     yield ""
     yield from _inside(report, queues)
 
@@ -73,14 +73,14 @@ def _queues(report: Report, queues: list[Queue]) -> Iterator[str]:
         yield f"  and {_counted(report, short, 'short queue')}, cleared in less than {least}{' each' * (len(short) > 1)}"
     if any(queue.spells > 1 for queue in rows):
         yield ""
-        yield (f"  A queue that comes back within {CYCLES} cycles of its signal is told as one: from its first beginning "
+        yield (f"  A queue that comes back within {CYCLES} cycles of its signal is counted as one: from its first beginning "
                "to its last")
         yield "  clearing, as far as it ever reached, with all of its delay."
     for queue in rows:
         yield from _joined(report, queue)
     for queue in queues:
         for spill in spills(report, queue):
-            yield f"  {spilled(report, spill)}, at {clock(report, spill.most_at)}, so it is longer than told."
+            yield f"  {spilled(report, spill)}, at {clock(report, spill.most_at)}, so it is longer than reported."
 
 
 def spilled(report: Report, spill: Spill) -> str:

@@ -139,7 +139,7 @@ def _unwound(name: str, rows: Sequence[Row]) -> list[Row]:
         found.append(Row(row.where, row.seconds + DAY * days, row.amount))
     if found[-1].seconds - found[0].seconds >= DAY:
         later = next(row for row in found if row.seconds - found[0].seconds >= DAY)
-        raise Problem(f"{name}: a second day begins in {later.where}, and no dates tell which is which; leave one "
+        raise Problem(f"{name}: a second day begins in {later.where}, and no dates say which is which; leave one "
                       "in the file, or give it a column of dates")
     return found
 
