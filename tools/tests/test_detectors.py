@@ -11,7 +11,7 @@ import ctmtools
 from ctmtools import Problem, allow_files, build, read_detectors, read_study
 from ctmtools.calibration.observed import read_observed
 from ctmtools.detectors.options import wanted_by
-from ctmtools.detectors.days import comes_again, hours_of, is_skipped
+from ctmtools.detectors.days import STILL, hours_of, put_back
 from ctmtools.detectors.names import Quantity, quantity_of, station_and_quantity
 
 from .corridor import corridor
@@ -208,8 +208,8 @@ def test_how_many_hours_a_day_has(date, hours):
 
 def test_hours_that_are_skipped_and_that_come_again():
     spring, autumn = datetime.date(2019, 3, 10), datetime.date(2019, 11, 3)
-    skipped = [hour for hour in range(24) if is_skipped(spring, hour * 3600, "America/Los_Angeles")]
-    again = [hour for hour in range(24) if comes_again(autumn, hour * 3600, "America/Los_Angeles")]
+    skipped = [hour for hour in range(24) if put_back(spring, hour * 3600, "America/Los_Angeles") < STILL]
+    again = [hour for hour in range(24) if put_back(autumn, hour * 3600, "America/Los_Angeles") > STILL]
     assert (skipped, again) == ([2], [1])
 
 

@@ -20,6 +20,7 @@ from .options import ALLOW_FILES
 from .output import FORCE, OUTPUT_FILE
 from .progress import bar
 from .telling import tell
+from .travel_time import figure
 
 EPILOG = """\b
 Examples:
@@ -66,11 +67,9 @@ def command(study: str, observed: tuple[str, ...], places: tuple[str, ...], vari
     modelled over observed flows.
     """
     from ..plots.calibration import against
-    from ..plots.figure import ENDINGS, save
+    from ..plots.figure import picture_file, save
 
-    picture = guard_output(output or Path(study).stem + "-calibration.png")
-    if picture.suffix.lower() not in ENDINGS:
-        raise Problem(f"{picture}: a picture's name ends with {', '.join(ENDINGS)}")
+    picture = guard_output(picture_file(output or Path(study).stem + "-calibration.png"))
     ranges = [range_of(text) for text in varied]
     seen = read_observed(observed, wanted_by(**terms), _places(places), read_scenario(study))
     if seen.lines:
@@ -92,7 +91,7 @@ def command(study: str, observed: tuple[str, ...], places: tuple[str, ...], vari
     rows = [("detector", "rows", "GEH, mean", "GEH below 5", "RMSE flow, vehicles/h", "RMSE speed, km/h")]
     for place, row in by_place(found.modelled, seen).iterrows():
         rows.append((str(place), f"{row['rows']:.0f}", f"{row.geh:.2f}", f"{row.below_5:.0%}", number_text(row.rmse_flow),
-                     number_text(row.rmse_speed) if row.rmse_speed == row.rmse_speed else "-"))
+                     figure(row.rmse_speed)))
     tell(*table(rows, right=range(1, 6)))
     save(against(found.modelled, seen, f"{Path(study).stem}: {_values(found.values)}"), picture)
     tell("", str(picture))

@@ -19,6 +19,7 @@ from ..texts.text_table import table
 from .options import ALLOW_FILES, ROWS, VARIED
 from .output import FORCE, OUTPUT_FILE
 from .progress import bar
+from .sweep import rest_lines, rounded_in_all
 from .telling import tell
 
 if TYPE_CHECKING:
@@ -75,14 +76,10 @@ def command(source: str, varied: tuple[str, ...], output: str | None, rows: int)
 
 def _tell(choice: Choice, frame: pandas.DataFrame, rows: int) -> None:
     """Prints the best rows."""
-    same = frame.rounded.iloc[0] if len(frame) > 1 and frame.rounded.nunique() == 1 else ""
+    same = rounded_in_all(frame)
     lines = [(*choice.keys, "delay (vehicle-hours)", "")]
     for _, row in frame.head(rows).iterrows():
         remark = f"failed: {one_line(row.error)}" if row.error else \
             f"rounded: {row.rounded}" if row.rounded not in ("", same) else ""
         lines.append((*(shown(row[key]) for key in choice.keys), "" if row.error else number_text(row.delay_vehicle_hours), remark))
-    tell(*table(lines, right=range(len(choice.keys) + 1)))
-    if len(frame) > rows:
-        tell(f"  and {len(frame) - rows} more rows")
-    if same:
-        tell(f"  Rounded in each of them: {same}")
+    tell(*table(lines, right=range(len(choice.keys) + 1)), *rest_lines(len(frame) - rows, same))

@@ -38,12 +38,10 @@ study's [lane]."""
 def command(detectors: tuple[str, ...], lanes: float | None, length: float | None, output: str | None, **terms: Unpack[StationOptions]) -> None:
     """Fit the triangle of flow and density to a detector's data, and plot both."""
     from ..plots.calibration import triangle
-    from ..plots.figure import ENDINGS, save
+    from ..plots.figure import picture_file, save
 
     detector = detectors[0]
-    picture = guard_output(output or Path(detector).stem + "-diagram.png")
-    if picture.suffix.lower() not in ENDINGS:
-        raise Problem(f"{picture}: a picture's name ends with {', '.join(ENDINGS)}")
+    picture = guard_output(picture_file(output or Path(detector).stem + "-diagram.png"))
     states = read_states(detectors, lanes, wanted_by(**terms), length)
     try:
         found = fit(states)

@@ -19,6 +19,7 @@ from .options import ALLOW_FILES, CLUSTER, EVERY, JOBS, ROWS, VARIED
 from .output import FORCE, guard_folder_of
 from .progress import bar
 from .telling import tell
+from .travel_time import figure
 
 if TYPE_CHECKING:
     import pandas
@@ -103,19 +104,15 @@ def _do(sweep: Sweep, jobs: int | None, address: str | None) -> None:
 def _tell(sweep: Sweep, rows: int, folder: Path, drawn: Sequence[str]) -> None:
     """Prints the best rows, and writes the table and the plot."""
     frame, keys = sweep.rows.frame(), sweep.keys
-    same = frame.rounded.iloc[0] if len(frame) > 1 and frame.rounded.nunique() == 1 else ""
+    same = rounded_in_all(frame)
     lines = [(*keys, "delay (vehicle-hours)", "longest queue (km)", "most waiting", "left", "inside",
               "travel time (min)", "")]
     for _, row in frame.head(rows).iterrows():
         figures = ("",) * 6 if row.error else (number_text(row.delay_vehicle_hours), kilometre(row.longest_queue_km),
                                                f"{row.most_waiting_vehicles:,.0f}", number_text(row.left_vehicles),
-                                               number_text(row.inside_vehicles), _minutes(row.travel_time_min))
+                                               number_text(row.inside_vehicles), figure(row.travel_time_min))
         lines.append((*(shown(row[key]) for key in keys), *figures, _remark(row, same)))
-    tell(*table(lines, right=range(len(keys) + 6)))
-    if len(frame) > rows:
-        tell(f"  and {len(frame) - rows} more rows")
-    if same:
-        tell(f"  Rounded in each of them: {same}")
+    tell(*table(lines, right=range(len(keys) + 6)), *rest_lines(len(frame) - rows, same))
     path = folder / "table.csv"
     write(path, frame_text(frame.drop(columns="fingerprint"), index=False, float_format="%.6f"))
     picture = folder / "plot.png"
@@ -131,8 +128,14 @@ def _tell(sweep: Sweep, rows: int, folder: Path, drawn: Sequence[str]) -> None:
     tell("", f"{path}, {picture}")
 
 
-def _minutes(value: float) -> str:
-    return number_text(value) if value == value else "-"
+def rounded_in_all(frame: pandas.DataFrame) -> str:
+    """What was rounded, where that is the same in all rows of several."""
+    return str(frame.rounded.iloc[0]) if len(frame) > 1 and frame.rounded.nunique() == 1 else ""
+
+
+def rest_lines(more: int, same: str) -> list[str]:
+    """What stands below the rows that are told: how many more there are, and what was rounded in all."""
+    return [f"  and {more} more rows"] * (more > 0) + [f"  Rounded in each of them: {same}"] * bool(same)
 
 
 def _remark(row: pandas.Series, same: str) -> str:

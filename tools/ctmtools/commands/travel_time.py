@@ -90,7 +90,7 @@ def told_times(report: Report, cells: list[str], frame: pandas.DataFrame) -> lis
     rows: list[tuple[str, ...]] = [("set out from", "vehicles", f"mean, {unit}", "least", "most", "km/h")]
     for row in frame.itertuples():
         clock = report.units.clock(row.step) if report.units.known else f"{row.step:g}"
-        rows.append((clock, number_text(row.entered), *map(_figure, (row.mean, row.least, row.most, row.speed))))
+        rows.append((clock, number_text(row.entered), *map(figure, (row.mean, row.least, row.most, row.speed))))
     return [f"{head}, {_free(report, cells, frame)}", "", *table(rows, right=range(1, 6))] + _late(frame)
 
 
@@ -102,7 +102,8 @@ def _free(report: Report, cells: list[str], frame: pandas.DataFrame) -> str:
     return f"{' to '.join(dict.fromkeys(bounds))} {unit} at free flow by the speed limits in force, {len(cells)} cells"
 
 
-def _figure(value: float) -> str:
+def figure(value: float) -> str:
+    """A figure as tables show it, also one that isn't known."""
     return number_text(value) if value == value else "-"
 
 

@@ -12,8 +12,7 @@ from .table import named_days
 WEEKDAYS = ("monday", "tuesday", "wednesday", "thursday", "friday", "saturday", "sunday")
 SORTS = {"all": range(7), "weekdays": range(5), "weekends": range(5, 7),
          **{name: range(i, i + 1) for i, name in enumerate(WEEKDAYS)}}
-
-
+STILL = datetime.timedelta(0)
 ORDERS = ("day-first", "month-first")  # of the day and the month, where the year isn't first
 
 
@@ -92,18 +91,11 @@ def hours_of(date: datetime.date, zone: str) -> float:
     return (end - begin).total_seconds() / 3600
 
 
-def comes_again(date: datetime.date, second: int, zone: str) -> bool:
-    """Whether the clocks of a zone show a time of a date twice, since they are put back."""
+def put_back(date: datetime.date, second: int, zone: str) -> datetime.timedelta:
+    """By how much the clocks of a zone are put back at a time of a date: above 0 they show it twice, below 0 never."""
     time = datetime.datetime.combine(date, datetime.time()) + datetime.timedelta(seconds=second)
     first, other = (time.replace(tzinfo=zone_of(zone), fold=fold).utcoffset() for fold in (0, 1))
-    return first is not None and other is not None and first > other
-
-
-def is_skipped(date: datetime.date, second: int, zone: str) -> bool:
-    """Whether the clocks of a zone never show a time of a date, since they are put forward."""
-    time = datetime.datetime.combine(date, datetime.time()) + datetime.timedelta(seconds=second)
-    first, other = (time.replace(tzinfo=zone_of(zone), fold=fold).utcoffset() for fold in (0, 1))
-    return first is not None and other is not None and first < other
+    return (first or STILL) - (other or STILL)
 
 
 def holidays_of(words: Sequence[str], years: Iterable[int]) -> list[datetime.date]:

@@ -7,7 +7,7 @@ import pandas
 
 from ..problem import Problem
 from ..texts.quantities import DAY, HOUR
-from .days import comes_again
+from .days import STILL, put_back
 from .file_set import Files
 from .formats import VEHICLES
 
@@ -76,7 +76,7 @@ def _with_hours_again(files: Files, frame: pandas.DataFrame) -> pandas.DataFrame
         return frame
     times = frame.loc[again, ["day", "second"]].drop_duplicates().astype({"day": str})
     known = {(text, second) for text, second in times.itertuples(index=False)
-             if text in files.days.dates and comes_again(files.days.dates[text], second, zone)}
+             if text in files.days.dates and put_back(files.days.dates[text], second, zone) > STILL}
     pairs = pandas.Series(list(zip(frame.day[again].astype(str), frame.second[again])), index=frame.index[again], dtype=object)
     return frame.assign(again=frame.again | pairs.isin(known).reindex(frame.index, fill_value=False))
 

@@ -11,7 +11,7 @@ from ..arrays import Wholes
 from ..problem import Problem
 from ..texts.quantities import DAY
 from ..units import clock_text
-from .days import is_skipped
+from .days import STILL, put_back
 from .file_set import Files
 
 MEASURES = ["flow", "speed", "occupancy", "density"]
@@ -72,7 +72,7 @@ def _grid(files: Files, frame: pandas.DataFrame, interval: float) -> pandas.Data
         own = numpy.arange(row["min"], row["max"] + 1, interval).astype(int)
         date = files.days.dates.get(str(day))
         if zone and date:
-            own = numpy.array([one for one in own if not is_skipped(date, int(one), zone)], dtype=int)
+            own = numpy.array([one for one in own if put_back(date, int(one), zone) >= STILL], dtype=int)
         seconds.append(own)
         days.append(numpy.full(len(own), frame.day.cat.categories.get_loc(day)))
     stations, times = frame.station.cat.codes.unique(), numpy.concatenate(seconds)

@@ -164,9 +164,11 @@ def _why_none(found: Streets, until: str) -> str:
     return f"no vehicle comes in the first {lasting}" + (f"; {'; '.join(lost)}" if lost else "")
 
 
-def _need_toml(target: Path) -> None:
+def _guard(target: Path) -> None:
+    """Refuses a place for a study of another ending, or where a file of another sort stands."""
     if target.suffix.lower() != ".toml":
         raise Problem(f"{target}: a study's name ends with .toml")
+    guard_output(target)
 
 
 def _written(found: Streets, terms: Terms, times: tuple[float, float], target: Path, trips: bool) -> Imported:
@@ -175,8 +177,7 @@ def _written(found: Streets, terms: Terms, times: tuple[float, float], target: P
     from .traffic import tally, traffic_of
     from .trip_study import notes_of, open_traffic, trip_study_text
 
-    _need_toml(target)
-    guard_output(target)
+    _guard(target)
     interval, until = times
     traffic = open_traffic(found, until) if trips else traffic_of(found, interval, until)
     if not traffic.streets:
@@ -196,8 +197,7 @@ def _map_written(found: Streets, places: list[Place], terms: Terms, until: float
     from .traffic import traffic_of
     from .trip_study import notes_of, open_traffic, trip_study_text
 
-    _need_toml(target)
-    guard_output(target)
+    _guard(target)
     form, told = (target.with_suffix(f".{name}.csv") for name in ("trips" if trips else "demand", "places"))
     if trips:
         found.trips = open_trips(found, until)

@@ -317,16 +317,17 @@ class Writer:
             program = self.found.programs[node]
             values |= {"cycle": rounded(program.cycle), "offset": rounded(program.offset),
                        "phases": Rows(self._phase_rows(node, own, program))}
-        yields = Rows({"movement": self._named(way), "yields_to": self._others(way), **self.giving.taken[way].terms()} for way in own
-                      if way in self.giving.taken)
+        yields = Rows(self._yielding(way) for way in own if way in self.giving.taken)
         if yields:
             values["yields"] = yields
         yield Section(("junctions",), values, in_list=True)
         yield from (_closed(f"{self.names[one]}-{self.names[two]}", 0) for one, two in own if self._dark((one, two)))
 
-    def _others(self, way: Movement) -> list[list[Any]]:
-        """To whom a movement gives way."""
-        return [[*self._named(other), *([count] if count > 1 else [])] for other, count in self.giving.taken[way].others.items()]
+    def _yielding(self, way: Movement) -> dict[str, Any]:
+        """To whom a movement gives way, and how."""
+        gives = self.giving.taken[way]
+        others = [[*self._named(other), *([count] if count > 1 else [])] for other, count in gives.others.items()]
+        return {"movement": self._named(way), "yields_to": others, **gives.terms()}
 
     def _phase_rows(self, node: str, ways: Sequence[Movement], program: Program) -> Iterator[dict[str, Any]]:
         """The phases of a junction: those that follow traffic, those in whose greens some give way, or its greens as they are."""
@@ -386,12 +387,11 @@ class Writer:
         if dark:
             notes.append(f"{len(dark)} movements at signals are never green in their program, as {self._moving(dark[0])}; "
                          "they are closed, and hold up all behind them")
-        short = [street for chain in self.chains for street in [chain] if sum(self.found.streets[one].length
-                 for one in street) < self._cell(chain[0]) / 2]
+        lengths = {chain[0]: sum(self.found.streets[street].length for street in chain) for chain in self.chains}
+        short = [one for one, length in lengths.items() if length < self.found.streets[one].speed * self.terms.step / 3600 / 2]
         if short:
-            notes.append(f"{len(short)} roads are shorter than half a cell and become one, as "
-                         f"{rounded_text(sum(self.found.streets[one].length for one in short[0]) * 1000)} m at "
-                         f"{self._called(short[0][0])}")
+            notes.append(f"{len(short)} roads are shorter than half a cell and become one, as {rounded_text(lengths[short[0]] * 1000)} m at "
+                         f"{self._called(short[0])}")
         return list(map(visible, notes))
 
     def _called(self, street: str) -> str:
@@ -401,9 +401,6 @@ class Writer:
     def _moving(self, movement: Movement) -> str:
         """What messages call a movement."""
         return " to ".join(self._called(street) for street in movement)
-
-    def _cell(self, street: str) -> float:
-        return self.found.streets[street].speed * self.terms.step / 3600
 
 
 def rounded(value: float) -> Fraction:

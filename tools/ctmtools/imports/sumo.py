@@ -10,7 +10,7 @@ from ..study.coordinates import METRES, coded
 from ..texts.text_table import first_few
 from .streets import (ALL_STOP, GIVE_WAY, LEFT, RIGHT, STOP, THROUGH, ZIPPER, Connection, Movement, Program, Span, Stage, Street,
                       Streets)
-from .sumo_net import CAR, Edge, Lane, Link, Location, Logic, LogicPhase, Net, read_net
+from .sumo_net import CAR, Link, Location, Logic, LogicPhase, Net, read_net
 
 GREEN = "GgoO"  # a signal that is green, or off
 MINOR = "go"  # one that is green, or off, for who gives way
@@ -42,7 +42,7 @@ def _edges(net: Net, found: Streets) -> None:
     """Puts the edges for cars among the streets, and those for other motor vehicles alone."""
     left = 0
     for edge in net.edges:
-        lanes = _lanes(edge)
+        lanes = [lane for lane in edge.lanes if CAR in lane.classes] or edge.lanes
         if not lanes:
             left += 1
             continue
@@ -79,11 +79,6 @@ def drop_idle(found: Streets) -> None:
                            f"({first_few(sorted(others & driven))})")
     if others - driven:
         found.notes.append(f"{len(others - driven)} edges that only other motor vehicles may use are left out")
-
-
-def _lanes(edge: Edge) -> list[Lane]:
-    """The lanes of an edge that count: those for cars, and where it has none those for other motor vehicles."""
-    return [lane for lane in edge.lanes if CAR in lane.classes] or edge.lanes
 
 
 def _connections(net: Net, found: Streets) -> list[Link]:

@@ -10,7 +10,7 @@ import networkx
 
 from ..problem import Problem
 from ..study.writing import Rows, sections, text_of
-from .streets import Movement, Streets, Trip, reached
+from .streets import Streets, Trip, reached
 from .study_file import Terms, Writer
 from .traffic import EXIT, GATE, Traffic
 
@@ -46,7 +46,8 @@ def open_traffic(found: Streets, until: float) -> Traffic:
     if not found.trips:
         raise Problem(f"{found.title}: there are no trips")
     graph = networkx.DiGraph(list(found.ways))
-    graph.add_edges_from(end for trip in found.trips for end in _ends(trip))
+    for trip in found.trips:
+        graph.add_edges_from([(GATE + trip.route[0], trip.route[0]), (trip.route[-1], EXIT + trip.route[-1])])
     kept = reached(graph, {GATE + trip.route[0] for trip in found.trips}) & \
         reached(graph.reverse(), {EXIT + trip.route[-1] for trip in found.trips})
     made = Traffic(until, 1, [street for street in found.streets if street in kept])
@@ -54,11 +55,6 @@ def open_traffic(found: Streets, until: float) -> Traffic:
         if kept.issuperset(movement):
             made.moved[movement] = [1.0]
     return made
-
-
-def _ends(trip: Trip) -> tuple[Movement, Movement]:
-    """The movements from the gate at which a trip begins, and to the exit at which it ends."""
-    return (GATE + trip.route[0], trip.route[0]), (trip.route[-1], EXIT + trip.route[-1])
 
 
 def _by_pair(trips: list[Trip], interval: float, until: float) -> dict[tuple[str, str], dict[int, float]]:

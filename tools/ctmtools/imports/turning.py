@@ -16,19 +16,11 @@ def turn_of(said: str, one: Street, two: Street) -> str:
     known = WORDS.get(said.strip().lower()[:1])
     if known:
         return known
-    before, behind = _last_leg(one), _first_leg(two)
+    before, behind = _leg(one.points[-2:]), _leg(two.points[:2])
     if not before or not behind:
         return THROUGH
     turned = degrees(phase(behind / before))
     return THROUGH if abs(turned) <= SLIGHT else LEFT if turned > 0 else RIGHT
-
-
-def _last_leg(street: Street) -> complex:
-    return _leg(street.points[-2:])
-
-
-def _first_leg(street: Street) -> complex:
-    return _leg(street.points[:2])
 
 
 def _leg(points: list[tuple[float, float]]) -> complex:

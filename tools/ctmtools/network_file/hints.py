@@ -13,7 +13,17 @@ from .records import FileRecord, line_of
 
 FORMS = "".join(form for _, form in kinds.HEADERS)
 WRITTEN = kinds.or_text(",".join(header) for header in kinds.HEADERS)  # what the first record may be
-DECIMAL_COMMA = re.compile(r"[0-9]+,[0-9]+")
+BEHIND = "A comment stands on a line of its own; # behind a record is part of it."
+# What a text that is no number may be, each with its hint, in which {} stands for the text with a point; of several the first.
+NUMBERS = [(re.compile(pattern, re.DOTALL), hint) for pattern, hint in (
+    (r"", "The field is empty."),
+    (r".*#.*", BEHIND),
+    (r"[0-9]+,[0-9]+", "Is a decimal comma meant? Write {}."),
+    (r"\s.*|.*\s", "Take the spaces away."),
+    (r"\d{1,3}([ ']\d{3})+(\.\d+)?", "Take away what stands between the thousands."),
+    (r"\+.*", "Take the plus sign away."),
+    (r"-.*", "No number here is negative."),
+    (r"[0-9.]+[eE][-+]?[0-9]+", "Write it without an exponent."))]
 
 # Makes a hint of the file's bytes, its records, the one with the fault, and the fault.
 Hint = Callable[[bytes, Sequence[FileRecord], FileRecord, Fault], str]
@@ -132,7 +142,7 @@ def _count_hint(content: bytes, records: Sequence[FileRecord], record: FileRecor
         if where:
             return f"Is a decimal comma meant? Write {where} with a point."
         if any(field.startswith("#") for field in fields) or "#" in fields[-1]:
-            return "A comment stands on a line of its own; # behind a record is part of it."
+            return BEHIND
         return f"There are {len(fields) - wanted} too many."
     for sign, name in ((";", "Semicolons"), ("\t", "Tabs")):
         if any(sign in field for field in fields):
@@ -173,22 +183,9 @@ def _name_hint(content: bytes, records: Sequence[FileRecord], record: FileRecord
 def _number_hint(content: bytes, records: Sequence[FileRecord], record: FileRecord, fault: Fault) -> str:
     text = _value(record, fault)
     sort = _term(record, fault).sort
-    if not text:
-        return "The field is empty."
-    if "#" in text:
-        return "A comment stands on a line of its own; # behind a record is part of it."
-    if DECIMAL_COMMA.fullmatch(text):
-        return f"Is a decimal comma meant? Write {text.replace(',', '.')}."
-    if text != text.strip():
-        return "Take the spaces away."
-    if re.fullmatch(r"\d{1,3}([ ']\d{3})+(\.\d+)?", text):
-        return "Take away what stands between the thousands."
-    if text.startswith("+"):
-        return "Take the plus sign away."
-    if text.startswith("-"):
-        return "No number here is negative."
-    if re.fullmatch(r"[0-9.]+[eE][-+]?[0-9]+", text):
-        return "Write it without an exponent."
+    known = next((hint for pattern, hint in NUMBERS if pattern.fullmatch(text)), None)
+    if known is not None:
+        return known.format(text.replace(",", "."))
     if re.fullmatch(r"[0-9]*\.[0-9]*", text):
         if sort == "whole":
             return "A whole number has no point."

@@ -50,10 +50,10 @@ def draw_ways(rows: Sequence[WayRow], report: Report, width: float) -> Figure:
     most = sorted(ways, key=lambda way: -sum(row.vehicles for row in ways[way]))[:MOST_WAYS]
     drawn, axes = figure(2, size=(8, 6), sharex=True)
     hours = width * (report.units.step or 0) / 3600
-    common = _common(most)
+    common = set.intersection(*(set(roads) for _, _, roads in most)) if len(most) > 1 else set()
     last = 0.0
     for number, way in enumerate(most):
-        steps = numpy.array([_step(row, report) for row in ways[way]])
+        steps = numpy.array([(row.seconds - (report.units.start or 0)) / (report.units.step or 1) for row in ways[way]])
         last = max(last, float(steps.max() + width))
         for one, values in zip(axes, ([row.vehicles / hours for row in ways[way]], [row.minutes for row in ways[way]])):
             times, heights = _stairs(steps, numpy.array(values), width)
@@ -69,10 +69,6 @@ def draw_ways(rows: Sequence[WayRow], report: Report, width: float) -> Figure:
     return drawn
 
 
-def _step(row: WayRow, report: Report) -> float:
-    return (row.seconds - (report.units.start or 0)) / (report.units.step or 1)
-
-
 def _stairs(steps: Numbers, values: Numbers, width: float) -> tuple[Numbers, Numbers]:
     """The corners of a line of steps, broken where an interval is left out."""
     times, heights = [], []
@@ -83,14 +79,6 @@ def _stairs(steps: Numbers, values: Numbers, width: float) -> tuple[Numbers, Num
         times += [step, step + width]
         heights += [value, value]
     return numpy.array(times), numpy.array(heights)
-
-
-def _common(ways: Sequence[tuple[str, str, tuple[str, ...]]]) -> set[str]:
-    """The roads that all of the ways have."""
-    found = set(ways[0][2])
-    for way in ways[1:]:
-        found &= set(way[2])
-    return found if len(ways) > 1 else set()
 
 
 def _named(way: tuple[str, str, tuple[str, ...]], common: set[str]) -> str:

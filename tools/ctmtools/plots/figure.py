@@ -100,7 +100,12 @@ def _wrapped(axes: Axes, text: str, size: float, letters: int) -> str:
 
 def target(report: Report, kind: str, output: str | Path | None) -> Path:
     """Where a picture goes: where it is asked for, else the report's name with the kind of plot, in this folder."""
-    path = Path(output) if output else Path(f"{Path(report.name).stem}-{kind}.png")
+    return picture_file(output or f"{Path(report.name).stem}-{kind}.png")
+
+
+def picture_file(name: str | Path) -> Path:
+    """The file of a picture, whose ending says a format that these pictures have."""
+    path = Path(name)
     if path.suffix.lower() not in ENDINGS:
         raise Problem(f"{path}: a picture's name ends with {', '.join(ENDINGS)}")
     return path
