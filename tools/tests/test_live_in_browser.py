@@ -1,10 +1,11 @@
-"""The page that answers in a browser without a window: what is typed there, and what is seen then."""
+"""The page that answers in a browser without a window: what is typed and dragged there, and what is seen then."""
 
 import pytest
 from selenium.webdriver.common.action_chains import ActionChains
 from selenium.webdriver.common.by import By
 from selenium.webdriver.common.keys import Keys
 
+from ctmtools.live.fields import values_in
 from ctmtools.live.session import Session
 
 from .live_pages import begun_browser, is_drawn, opened, serving, until
@@ -74,3 +75,55 @@ def test_a_fault_stands_at_its_field_and_names_are_text(browser, session):
         typed(browser, "lane.wave_speed", "20")
         until(browser, "document.querySelector('[aria-invalid]') === null && !document.querySelector('#live-report.before')")
         assert browser.execute_script("return typeof window.alien") == "undefined" and browser.get_log("browser") == []
+
+
+def test_plans_are_kept_and_compared(browser, session):
+    with serving(session) as address:
+        opened(browser, address)
+        typed(browser, "roads.m.lanes", "1")
+        browser.execute_script("document.getElementById('live-plans').open = true")
+        browser.find_element(By.ID, "live-plan-name").send_keys("narrow")
+        browser.find_element(By.ID, "live-keep").click()
+        until(browser, "document.querySelectorAll('#live-plan-table tbody tr').length === 3")
+        names = [cell.text for cell in browser.find_elements(By.CSS_SELECTOR, "#live-plan-table td:first-child")]
+        assert names == ["as opened", "narrow", "at hand"]
+        browser.execute_script("const list = document.getElementById('live-against'); list.value = 'narrow';"
+                               "list.dispatchEvent(new Event('change'))")
+        until(browser, "document.getElementById('live-difference').textContent.startsWith('Against “narrow”')")
+        assert browser.get_log("browser") == []
+
+
+def closure(session):
+    return values_in(session.text)["closures"][0]
+
+
+def test_a_box_is_drawn_moved_and_widened_by_pointer(browser, session):
+    with serving(session) as address:
+        opened(browser, address)
+        browser.find_element(By.CSS_SELECTOR, "#live-draws [data-kind=closures]").click()
+        # The picture leaves 46 px at its left, 18 at its right and top, 24 at its foot; 10 minutes and 2 km lie between.
+        wide, high = browser.execute_script("const box = document.getElementById('space'); box.scrollIntoView({block: 'center'});"
+                                            "return [box.clientWidth, box.clientHeight]")
+        space = browser.find_element(By.ID, "space")
+
+        def at(minute, km):
+            return (round(46 + minute / 10 * (wide - 64) - wide / 2), round(high - 24 - km / 2 * (high - 42) - high / 2))
+        drag(browser, space, at(2, 1), at(5, 1.5))
+        until(browser, "document.querySelector('#live-boxes g.box[data-key=\"closures.1\"]') !== null")
+        assert closure(session) == {"road": "m", "from": 1.0, "to": 1.5, "start": "06:02", "end": "06:05", "lanes": 1}
+        drag(browser, space, at(3.5, 1.25), at(4.5, 1))
+        until(browser, "document.querySelector('[data-key=\"closures.1.start\"]').value === '06:03'")
+        assert closure(session) == {"road": "m", "from": 0.75, "to": 1.25, "start": "06:03", "end": "06:06", "lanes": 1}
+        drag(browser, space, at(6, 1), at(8, 1))
+        until(browser, "document.querySelector('[data-key=\"closures.1.end\"]').value === '06:08'")
+        assert closure(session)["start"] == "06:03" and browser.get_log("browser") == []
+        for _ in range(3):
+            session.undo()
+        assert session.text == STUDY
+
+
+def drag(browser, element, first, last):
+    """Drags from one point of an element to another, about its middle, on the way over a third."""
+    middle = [(a + b) // 2 for a, b in zip(first, last)]
+    steps = ActionChains(browser, 50).move_to_element_with_offset(element, *first).click_and_hold()
+    steps.move_to_element_with_offset(element, *middle).move_to_element_with_offset(element, *last).release().perform()
