@@ -148,7 +148,7 @@ def _queue(stages: Stages) -> Numbers:
     parts = stages.parts(slice(None))
     waits = {stages.last(one): stages.waits_of(place, parts) for place, one in enumerate(stages.movements)}
     lanes = [sum(waits[cell] for cell in one.beside if cell in waits) / one.lanes for one in stages.movements]
-    longest: Numbers = numpy.max(lanes, axis=0) / stages.report.lasting[:, 0] / stages.jam
+    longest: Numbers = numpy.max(numpy.array(lanes), axis=0) / stages.report.lasting[:, 0] / stages.jam
     return numpy.nan_to_num(longest)
 
 

@@ -86,8 +86,9 @@ class Passing:
         delay = DELAYS[self.movement.control]
         bounds = self.bounds
         inside = numpy.clip(numpy.minimum(bounds[1:], end) - numpy.maximum(bounds[:-1], begin), 0, None) / numpy.diff(bounds)
-        return sum(part * vehicles * delay(flow, may) / HOUR for part, (vehicles, flow, may, _) in zip(inside, self._rows)
-                   if part and LEAST < flow < FULL * may)
+        lost: float = sum(part * vehicles * delay(flow, may) / HOUR for part, (vehicles, flow, may, _) in zip(inside.tolist(), self._rows)
+                          if part and LEAST < flow < FULL * may)
+        return lost
 
     def long_queue(self, begin: int, end: int) -> float:
         """The vehicles that stand in a lane at once no more than in one of twenty moments, where they give way.

@@ -13,7 +13,7 @@ from zlib import crc32
 
 import numpy
 
-from ..arrays import Flags, Numbers
+from ..arrays import Flags, Numbers, Wholes
 from ..network_file.kinds import Record, file_text, record
 from ..network_file.network import Network, network_of
 from ..study.network_text import form_of
@@ -101,7 +101,7 @@ def _passing(network: Network, cell: str) -> Numbers:
     return passing
 
 
-def _runs(values: Numbers | Flags) -> Iterator[tuple[int, int, float]]:
+def _runs(values: Numbers | Wholes | Flags) -> Iterator[tuple[int, int, float]]:
     """From when to when a value stays the same."""
     begin = 0
     for value, same in groupby(values.tolist()):

@@ -68,7 +68,8 @@ class SharedLanes:
         apart = sum(most for _, most in each)
         wanted = numpy.max([longest_queue(flow, most) for flow, most in each], axis=0)
         passes = lane + (apart - lane) * numpy.minimum(1.0, self.flare / wanted)
-        return numpy.clip(passes * flows[own] / come / numpy.maximum(passing[own], A_VEHICLE), 0, 1)
+        part: Numbers = numpy.clip(passes * flows[own] / come / numpy.maximum(passing[own], A_VEHICLE), 0, 1)
+        return part
 
     def freely(self, report: Report, bounds: Numbers, giving: Container[str]) -> Numbers:
         """The part of the lanes' time that those take who give way to nobody."""
@@ -79,4 +80,5 @@ class SharedLanes:
 def longest_queue(flows: Numbers, capacities: Numbers) -> Numbers:
     """The vehicles that a flare needs room for so that a movement has a lane of its own: its mean queue and one, rounded."""
     waits = [at_stop(flow, capacity) * flow / HOUR for flow, capacity in zip(flows, capacities)]
-    return numpy.floor(numpy.array(waits) + 1.5)
+    rounded: Numbers = numpy.floor(numpy.array(waits) + 1.5)
+    return rounded
