@@ -1,11 +1,14 @@
 """A bridge that is closed: who has a way already and keeps it, and who goes round. examples/README.md has the paper."""
 
+import contextlib
 import re
+import shutil
 
 import pytest
 
 from ctmtools import assign, read_report
 from ctmtools.assignment.ways_file import read_ways
+from ctmtools.command_line import main
 
 from .examples import EXAMPLES
 from .validation_tables import figures_of
@@ -13,10 +16,21 @@ from .validation_tables import figures_of
 OPEN, CLOSED = EXAMPLES / "bypass.toml", EXAMPLES / "bypass-closed.toml"
 
 
+@pytest.fixture(scope="module")
+def made(recording_program, tmp_path_factory):
+    """The files of an assignment of the town with its bridge open."""
+    folder = tmp_path_factory.mktemp("open")
+    with contextlib.chdir(folder), pytest.raises(SystemExit) as ended:
+        main(["assign", str(OPEN)])
+    assert ended.value.code == 0
+    return list(folder.iterdir())
+
+
 @pytest.fixture
-def opened(tool, recording_program):
-    """An assignment of the town with its bridge open, in the folder of the test."""
-    assert tool("assign", OPEN)[0] == 0
+def opened(tool, made, tmp_path):
+    """The same in the folder of the test."""
+    for path in made:
+        shutil.copy(path, tmp_path)
     return "bypass.assigned.toml"
 
 
