@@ -2,6 +2,7 @@
 
 import os
 import re
+import shutil
 import subprocess
 import sys
 
@@ -91,22 +92,40 @@ def given(command):
     return command
 
 
-@pytest.fixture
-def top(tmp_path, program):
+def laid(folder):
     """A folder like the repository's top, in which the commands can be run as they are written."""
     for name in ("ctm-tools", "docs", "examples", "tools"):
-        (tmp_path / name).symlink_to(TOP / name)
-    stand_in = tmp_path / "ctm"
+        (folder / name).symlink_to(TOP / name)
+    stand_in = folder / "ctm"
     stand_in.write_text(STAND_IN.format(top=TOP))
     stand_in.chmod(0o755)
-    return tmp_path
+    return folder
+
+
+@pytest.fixture
+def top(tmp_path, program):
+    return laid(tmp_path)
+
+
+@pytest.fixture(scope="module")
+def first_report(recording_program, tmp_path_factory):
+    """The files of the report that the first pages make, and others are about."""
+    folder = laid(tmp_path_factory.mktemp("first"))
+    assert ended(folder, recording_program, "./ctm-tools", "run", "examples/bottleneck.toml")[0] == 0
+    return [*folder.glob("bottleneck.*")]
 
 
 def ended(top, program, *words):
-    """The status of a command, and what it wrote."""
-    done = subprocess.run(words, cwd=top, env={**os.environ, "CTM_PROGRAM": program, "PYTHONPATH": str(TOOLS)},
-                          stdout=subprocess.PIPE, stderr=subprocess.STDOUT, text=True, errors="replace")
+    """The status of a command, and what it wrote. What it needs of Python this one has, so no other is looked for."""
+    around = {"CTM_PROGRAM": program, "CTM_PYTHON": sys.executable, "PYTHONPATH": str(TOOLS)}
+    done = subprocess.run(words, cwd=top, env={**os.environ, **around}, stdout=subprocess.PIPE, stderr=subprocess.STDOUT,
+                          text=True, errors="replace")
     return done.returncode, done.stdout
+
+
+def copy_into(folder, files):
+    for path in files:
+        shutil.copy(path, folder)
 
 
 def save_files(page, folder):
@@ -116,9 +135,9 @@ def save_files(page, folder):
 
 
 @pytest.mark.parametrize("name", COMMANDS_IN)
-def test_the_commands_of_a_document_run(name, top, recording_program):
-    if name.startswith("tools/docs/"):  # they are about the report that the first pages make
-        assert ended(top, recording_program, "./ctm-tools", "run", "examples/bottleneck.toml")[0] == 0
+def test_the_commands_of_a_document_run(name, top, recording_program, first_report):
+    if name.startswith("tools/docs/"):
+        copy_into(top, first_report)
     save_files(read(name), top)
     to_run = [command for command in commands(read(name)) if command not in LEFT_OUT]
     assert len(to_run) >= COMMANDS_IN[name]
@@ -138,9 +157,9 @@ def test_each_command_that_is_left_out_is_in_a_document():
     assert not LEFT_OUT.keys() - told
 
 
-def test_the_lines_of_python_run(top, recording_program):
+def test_the_lines_of_python_run(top, recording_program, first_report):
     lines = read("tools/docs/python.md").split("```\nimport ctmtools\n")[1].split("```")[0]
-    assert ended(top, recording_program, "./ctm-tools", "run", "examples/bottleneck.toml")[0] == 0
+    copy_into(top, first_report)
     status, told = ended(top, recording_program, sys.executable, "-c", f"import ctmtools\n{lines}\nprint(queues.cell[0])")
     assert (status, told) == (0, "m20\n")
 
