@@ -13,7 +13,7 @@ from crates import Crates
 from dependencies import dependencies
 
 BILL = "ctm.spdx.json"
-EXTRAS = ("calibration", "coordinates", "dask", "holidays", "parquet", "workbooks")
+EXTRAS = ("browser", "calibration", "coordinates", "dask", "holidays", "parquet", "workbooks")
 OWN = "SPDXRef-ctm"
 Entry = dict[str, Any]
 

@@ -128,8 +128,10 @@ def test_each_check_gets_the_programs_that_were_built_and_knows_that_it_is_in_th
         gate.script(check, f'{PASSING}; echo "$CI $CTM_PROGRAM $CTM_WAIT_PROGRAM $*"')
     told = gate.run()[1]
     program, waits = (f"{gate.top}/crates/{it}/out/{it}" for it in ("ctm_program", "ctm_wait"))
-    begin = f"true {program} {waits} "
-    assert [line for line in told if line.startswith("true")] == [begin] + [f"{begin}{program}"] * 3 + [begin]
+    begin, processes = f"true {program} {waits} ", len(os.sched_getaffinity(0))
+    beside = f"-n {processes} --dist loadfile" if processes > 1 else ""
+    by_pytest = f"{begin}{program} {beside}".rstrip()
+    assert [line for line in told if line.startswith("true")] == [begin, by_pytest, by_pytest, f"{begin}{program}", f"{begin}{beside}"]
 
 
 def broken(change, told):

@@ -44,7 +44,7 @@ GROUP = schema.record({"name": schema.text, "line": schema.text, "cells": schema
 MOVEMENT = schema.record({"into": schema.text, "cells": schema.list_of(schema.text), "line": schema.text, "control": schema.text,
                           "lanes": schema.whole(1), "beside": schema.list_of(schema.text), "saturation": schema.above(0)},
                          {"room": schema.above(0)})
-APPROACH = schema.record({"name": schema.text, "road": schema.text, "last": schema.text, "movements": schema.list_of(MOVEMENT)})
+APPROACH = schema.record({"name": schema.text, "road": schema.text, "last": schema.text, "movements": schema.list_of(MOVEMENT, least=1)})
 LOSS = schema.record({"name": schema.text, "vehicles": schema.number, "hours": schema.number, "full": schema.whole(0)})
 CHECKSUMS = ("network_checksum", "report_checksum", "report_network", "ways_checksum", "ways_network")
 FILE = schema.record({}, {

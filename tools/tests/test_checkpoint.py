@@ -78,7 +78,7 @@ def heeds_an_interrupt():
 
 def test_a_run_in_stretches_has_the_report_of_the_whole_run(tool, program, tmp_path, whole):
     status, out, err = tool(*WORDS)
-    assert status == 0 and "No queues are told" in out and "without records" in out
+    assert status == 0 and "No queues are listed" in out and "without records" in out
     assert (tmp_path / "interchange.report").read_bytes() == whole
     assert sorted(os.listdir(tmp_path)) == ["interchange.csv", "interchange.report", "interchange.units.json"]
 

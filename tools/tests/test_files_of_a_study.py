@@ -146,4 +146,4 @@ def test_each_command_that_takes_a_study_has_the_option():
     from ctmtools.command_line import COMMANDS, tools
 
     found = {name for name in COMMANDS for parameter in tools.get_command(None, name).params if "--allow-files" in parameter.opts}
-    assert found == {"assign", "branch", "build", "calibrate", "choose", "draw", "meter", "optimise", "run", "sweep"}
+    assert found == {"assign", "branch", "build", "calibrate", "choose", "draw", "meter", "open", "optimise", "run", "sweep"}

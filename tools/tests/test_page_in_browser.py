@@ -345,7 +345,7 @@ def test_rows_that_find_no_room_on_paper_are_counted(browser, tmp_path):
 def test_a_page_asks_no_server(browser, two):
     opened(browser, two)
     assert browser.execute_script("return performance.getEntriesByType('resource').length") == 0
-    assert browser.execute_script("return document.querySelectorAll('img, link').length") == 0
+    assert browser.execute_script("return document.querySelectorAll('img[src], link').length") == 0
 
 
 def test_no_script_runs_but_the_page_s_own(browser, two, tmp_path):

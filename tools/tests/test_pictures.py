@@ -138,8 +138,9 @@ def test_names_that_find_no_room_are_counted(kind, names):
 
 def test_bars_that_are_left_out_are_told(report):
     read = report("grid")
-    roads = [road for road, cells in read.units.roads.items() if read.cells.wait[cells].sum() >= 0.0005 * read.total.delay]
-    assert f"{28 - len(roads)} roads with less than 0.05% of the delay are left out" in texts(plot(read, "delay"))
+    delays = read.by_road().set_index("road").delay  # of twelve roads, those before a junction with what waits in its cells
+    shown = delays[delays >= 0.0005 * delays.sum()]
+    assert len(delays) == 12 and len(shown) == 8 and f"{12 - len(shown)} roads with less than 0.05% of the delay are left out" in texts(plot(read, "delay"))
     assert "others are left out" in texts(plot(many_roads(160), "delay"))
     free = many_roads(61)
     free.cells.wait = 0.0

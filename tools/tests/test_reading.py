@@ -13,7 +13,7 @@ INSIDE = sorted([*TOP.glob("docs/inside/*.md"), TOP / "CONTRIBUTING.md"])
 USERS = sorted([TOP / "README.md", TOP / "tools/README.md", TOP / "examples/README.md", *TOP.glob("docs/*.md"),
                 *TOP.glob("docs/how-to/*.md"), *TOP.glob("tools/docs/*.md")])
 BOTH = [str(path.relative_to(TOP)) for path in [*USERS, *INSIDE]]
-MOST_PROSE, MOST_WITH_TABLES = 27_400, 42_600
+MOST_PROSE, MOST_WITH_TABLES = 28_600, 44_400
 LONGEST = 40  # words of a sentence
 # Sentences that are longer, by their pages and first words: lists of files, commands or titles, and what others wrote.
 LONGER = [

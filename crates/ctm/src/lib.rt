@@ -1,16 +1,14 @@
 //! Road traffic by Daganzo's cell transmission model (docs/MODEL.md): what a caller of the crates imports.
 //!
-//! A [`Net`] is read from a file. [`charted`] cuts it into regions, or [`grow`] along its roads. Workers take it through
-//! its steps: a [`Run`] has come to the last one, a [`Moment`] near another. A moment is saved, and [`load`] reads where a
-//! run goes on. Amounts are in parts, a million to a vehicle. What comes of a run is that of the model's recurrences, whatever
-//! the regions and workers.
+//! A [`Net`] is read from a file, by `Net::read(alloc, file)?`. [`charted`] cuts it into regions, or [`grow`] along its
+//! roads. Workers take it through its steps: a [`Run`] has come to the last one, a [`Moment`] near another. A moment is
+//! saved, and [`load`] reads where a run goes on. Amounts are in parts, a million to a vehicle. What comes of a run is that
+//! of the model's recurrences, whatever the regions and workers.
 //!
 //! Where do vehicles wait longest, and how long?
 //!
 //! ```text
-//! let net = Net::read(alloc, file)?;
-//! let layout = charted(alloc, &net, 16)?;
-//! let run = Run::of(rt, alloc, layout, 0, 4)?;
+//! let run = Run::of(rt, alloc, charted(alloc, net, 16)?, 0, 4)?;
 //! let rows = run.rows(alloc)?;
 //! let worst = rows.iter().enumerate().max_by_key(|(_, row)| row.wait);
 //! Ok(worst.map(|(cell, row)| (cell, row.wait)))
@@ -29,12 +27,17 @@
 //! Ok(None)
 //! ```
 //!
-//! What is the delay if things change, as in another file, four steps after a step or later?
+//! What is saved if things change, as in another file, four steps after a step or later?
 //!
 //! ```text
 //! let moment = Moment::near(rt, alloc, charted(alloc, net, 16)?, step, 4)?;
-//! let text = moment.save(alloc, other)?;
-//! let Saved { net, chart, start } = load(alloc, &text)?;
+//! moment.save(alloc, other)
+//! ```
+//!
+//! What is the delay then?
+//!
+//! ```text
+//! let Saved { net, chart, start } = load(alloc, text)?;
 //! let run = Run::resumed(rt, alloc, Layout::of(&net, chart), start, 4)?;
 //! Ok(run.delay(alloc)?)
 //! ```

@@ -4,10 +4,10 @@ ghost use Rattle.std.specs.Prelude.{◌≤◌, length};
 ghost use Rattle.network_file.specs.declared.limits.TheConstants.{MOST_BYTES};
 
 use crate::{
-    Layout, LoadFault, MOST_BYTES, Moment, Net, NetFault, NoMemory, Refused, Run, Saved, charted,
-    load,
+    Layout, LoadFault, MOST_BYTES, Moment, Net, NoMemory, Refused, Run, Saved, charted, load,
 };
 use std::alloc::Global;
+use std::process::Abort;
 use std::test::Fail;
 use std::thread::Threads;
 
@@ -15,13 +15,9 @@ use std::thread::Threads;
 fn longest_wait<R: Threads + Sync>(
     rt: &R,
     alloc: Global,
-    file: &[u8],
-) -> Result<Option<(usize, u64)>, Refused<NetFault>>
-    requires { length file.now ≤ MOST_BYTES }
-{
-    let net = Net::read(alloc, file)?;
-    let layout = charted(alloc, &net, 16)?;
-    let run = Run::of(rt, alloc, layout, 0, 4)?;
+    net: &Net,
+) -> Result<Option<(usize, u64)>, NoMemory> {
+    let run = Run::of(rt, alloc, charted(alloc, net, 16)?, 0, 4)?;
     let rows = run.rows(alloc)?;
     let worst = rows.iter().enumerate().max_by_key(|(_, row)| row.wait);
     Ok(worst.map(|(cell, row)| (cell, row.wait)))
@@ -45,7 +41,32 @@ fn first_full<R: Threads + Sync>(
     Ok(None)
 }
 
-// What is the delay if things change, as in another file, four steps after a step or later?
+// What is saved if things change, as in another file, four steps after a step or later?
+fn saved_near<R: Threads + Sync>(
+    rt: &R,
+    alloc: Global,
+    net: &Net,
+    step: u64,
+    other: &[u8],
+) -> Result<Vec<u8>, NoMemory>
+    requires { length other.now ≤ MOST_BYTES }
+{
+    let moment = Moment::near(rt, alloc, charted(alloc, net, 16)?, step, 4)?;
+    moment.save(alloc, other)
+}
+
+// What is the delay then?
+fn resumed_delay<R: Threads + Sync>(
+    rt: &R,
+    alloc: Global,
+    text: &[u8],
+) -> Result<u128, Refused<LoadFault>> {
+    let Saved { net, chart, start } = load(alloc, text)?;
+    let run = Run::resumed(rt, alloc, Layout::of(&net, chart), start, 4)?;
+    Ok(run.delay(alloc)?)
+}
+
+// The two, one after the other.
 fn delay_if<R: Threads + Sync>(
     rt: &R,
     alloc: Global,
@@ -55,11 +76,8 @@ fn delay_if<R: Threads + Sync>(
 ) -> Result<u128, Refused<LoadFault>>
     requires { length other.now ≤ MOST_BYTES }
 {
-    let moment = Moment::near(rt, alloc, charted(alloc, net, 16)?, step, 4)?;
-    let text = moment.save(alloc, other)?;
-    let Saved { net, chart, start } = load(alloc, &text)?;
-    let run = Run::resumed(rt, alloc, Layout::of(&net, chart), start, 4)?;
-    Ok(run.delay(alloc)?)
+    let text = saved_near(rt, alloc, net, step, other)?;
+    resumed_delay(rt, alloc, &text)
 }
 
 // Six vehicles come, two a step pass into the road, and one a step passes the exit. The gate holds 6, 4, 2 and then none: 4 and 2 of
@@ -88,13 +106,42 @@ limit,out,6,9,2
 
 #[test]
 fn the_first_page_is_answered(rt: HostRuntime) -> Result<(), Fail> {
-    let alloc = rt.alloc();
-    assert!(rt; QUEUE.len() <= MOST_BYTES && WIDER.len() <= MOST_BYTES);
-    assert_eq!(rt; longest_wait(&rt, alloc, QUEUE)?, Some((1, 9_000_000)));
-    let net = Net::read(alloc, QUEUE)?;
-    assert_eq!(rt; first_full(&rt, alloc, &net, 1, 4_000_000)?, Some(4));
-    assert_eq!(rt; first_full(&rt, alloc, &net, 1, 4_000_001)?, None);
-    assert_eq!(rt; delay_if(&rt, alloc, &net, 2, QUEUE)?, 15_000_000);
-    assert_eq!(rt; delay_if(&rt, alloc, &net, 2, WIDER)?, 14_000_000);
+    check_files(&rt, rt.alloc(), QUEUE, WIDER)
+}
+
+// The files are parameters, since a proof that has their bytes before it takes minutes.
+fn check_files<R: Abort + Threads + Sync>(
+    rt: &R,
+    alloc: Global,
+    queue: &[u8],
+    wider: &[u8],
+) -> Result<(), Fail> {
+    assert!(rt; queue.len() <= MOST_BYTES);
+    assert!(rt; wider.len() <= MOST_BYTES);
+    let net = Net::read(alloc, queue)?;
+    check_run(rt, alloc, &net)?;
+    check_change(rt, alloc, &net, queue, 15_000_000)?;
+    check_change(rt, alloc, &net, wider, 14_000_000)
+}
+
+// The answers of a run of the queue.
+fn check_run<R: Abort + Threads + Sync>(rt: &R, alloc: Global, net: &Net) -> Result<(), Fail> {
+    assert_eq!(rt; longest_wait(rt, alloc, net)?, Some((1, 9_000_000)));
+    assert_eq!(rt; first_full(rt, alloc, net, 1, 4_000_000)?, Some(4));
+    assert_eq!(rt; first_full(rt, alloc, net, 1, 4_000_001)?, None);
+    Ok(())
+}
+
+// The delay if another file takes over from step 6 on.
+fn check_change<R: Abort + Threads + Sync>(
+    rt: &R,
+    alloc: Global,
+    net: &Net,
+    other: &[u8],
+    delay: u128,
+) -> Result<(), Fail>
+    requires { length other.now ≤ MOST_BYTES }
+{
+    assert_eq!(rt; delay_if(rt, alloc, net, 2, other)?, delay);
     Ok(())
 }

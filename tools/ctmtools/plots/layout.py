@@ -143,9 +143,9 @@ class Map:
         done = 0.0
         for cell in cells:
             begin, done = done, done + self._length(cell)
-            first, last = (part / total * reach[-1] for part in (begin, done))
-            ends = [_at(points, reach, way) for way in (first, last)]
-            self.lines[cell] = [ends[0], *(point for point, way in zip(points, reach) if first < way < last), ends[1]]
+            ends = [_at(points, reach, part / total * reach[-1]) for part in (begin, done)]
+            self.lines[cell] = [ends[0], *_between(points, reach, begin / total * reach[-1], done / total * reach[-1]),
+                                ends[1]]
             self.places.setdefault(self._head(cell), ends[0])
             self.places.setdefault(self._tail(cell), ends[1])
 
@@ -175,8 +175,7 @@ class Map:
                 self._place_chain(chain, self.places[head], self.side * TURN)
             elif tail in self.places:
                 self.side = -self.side
-                total, end, angle = sum(map(self._length, chain)), self.places[tail], self.side * TURN
-                self._along(chain, [(end[0] - total * math.cos(angle), end[1] + total * math.sin(angle)), end])
+                self._place_back(chain, self.places[tail], self.side * TURN)
             elif stuck > len(waiting):
                 left = min(x for x, _ in self.places.values()) if self.given else 0.0
                 low = min(y for _, y in self.places.values())
@@ -197,6 +196,12 @@ class Map:
                 run = []
             else:
                 run.append(cell)
+
+    def _place_back(self, chain: Sequence[str], end: Point, angle: float) -> None:
+        """Lays a chain so that it ends in a point, coming from aside."""
+        total = sum(map(self._length, chain))
+        start = end[0] - total * math.cos(angle), end[1] + total * math.sin(angle)
+        self._along(chain, [start, end])
 
     def _bend(self, chain: Sequence[str], start: Point, end: Point) -> None:
         """Lays a chain between two placed points, aside from the straight way between them."""
@@ -220,6 +225,11 @@ def _at(points: Sequence[Point], reach: Sequence[float], way: float) -> Point:
             (x, y), (u, v) = points[i - 1], points[i]
             return x + part * (u - x), y + part * (v - y)
     return points[0]
+
+
+def _between(points: Sequence[Point], reach: Sequence[float], begin: float, end: float) -> Line:
+    """The points of a line that lie between two ways."""
+    return [point for point, way in zip(points, reach) if begin < way < end]
 
 
 def _beyond(one: Point, two: Point, way: float) -> Point:

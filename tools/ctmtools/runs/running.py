@@ -26,7 +26,7 @@ from ..study.plan import Scenario
 from ..study.reading import read_scenario
 from ..units import OfReport, Units, units_path
 from ..yielding.fixed_greens import note_losses
-from ..yielding.settling import MOST_RUNS, Done, Settled, settled
+from ..yielding.settling import MOST_RUNS, Done as Done, Settled, settled
 from .outputs import guard_network, write_network, write_units
 
 Shown = Callable[[int], Done]  # takes how many runs there may be, and gives what is called after each

@@ -6,16 +6,18 @@ once it is full. Where an approach has several pockets, the longer ones part fir
 
 from __future__ import annotations
 
+from collections.abc import Sequence
 from copy import copy
 from dataclasses import dataclass, replace
 from fractions import Fraction
+from itertools import accumulate, pairwise
+from math import dist
 
 from ..network_file.faults import NAME
 from ..problem import Problem
 from ..texts.quantities import HOUR
 from .movements import movements
 from .plan import Crossing, Diverge, Matrix, Movement, Pocket, Road, Scenario, Turn
-from .polylines import cut_at
 from .scale import rounded_text
 
 GROWING = ("roads", "diverges", "remarks")
@@ -156,3 +158,16 @@ def _led_to(crossing: Crossing, sources: list[Source]) -> Crossing:
                    turns=[(begin, end, rows(table)) for begin, end, table in crossing.turns],
                    priorities=crossing.priorities and rows(crossing.priorities), lanes=crossing.lanes and rows(crossing.lanes),
                    phases=phases, yields=yields, pockets=[], approaches=[crossing.sources[one.approach] for one in sources])
+
+
+def cut_at(points: Sequence[list[float]], part: float) -> tuple[list[list[float]], list[list[float]]]:
+    """The line up to a part of its length, from 0 to 1, and that behind it; two empty ones of fewer than two points."""
+    if len(points) < 2:
+        return [], []
+    reach = [0.0, *accumulate(dist(one, two) for one, two in pairwise(points))]
+    way = part * reach[-1]
+    last = max(i for i in range(len(points) - 1) if reach[i] <= way)
+    within = (way - reach[last]) / ((reach[last + 1] - reach[last]) or 1.0)
+    middle = [one + within * (two - one) for one, two in zip(points[last], points[last + 1])]
+    before, behind = list(points[:last + 1]), list(points[last + 1:])
+    return [*before, middle], [middle, *behind]

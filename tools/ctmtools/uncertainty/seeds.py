@@ -9,12 +9,11 @@ import pandas
 from ..report.by_road import by_road
 from ..report.reading import Report
 from ..runs.arrivals import at_random, lanes_giving_way
-from ..runs.running import Prepared, run
+from ..runs.running import Done, Prepared, run
 from ..study.movements import movement_road, movements
 from ..study.plan import Crossing, Scenario
 from ..texts.quantities import HOUR
 from ..texts.text_table import table
-from ..yielding.settling import Done
 from .reliability import of_mean
 
 MOST_TOLD = 12
