@@ -114,6 +114,9 @@ fn last_ones(alloc: Global, more: u32) -> Result<Vec<u8>, AllocError> {
     Ok(text)
 }
 
+// A network of one region, whose moves wake the crew of another where nobody else does.
+const ONE_EXIT: &[u8] = b"ctm,1\nsteps,1\nexit,x,1\n";
+
 // The moves come as the vain sweep still goes over the other regions, so that its member may come to sleep after the last of
 // them alone. How soon that is depends on the machine, so it is tried with many delays.
 #[test]
@@ -121,7 +124,7 @@ fn a_member_is_told_of_moves_during_its_sweep(rt: HostRuntime) -> Result<(), Fai
     let text = last_ones(rt.alloc(), 506)?;
     for round in 0..48_u32 {
         let observer = LastMoves::new(510, 1 << (round % 16), false);
-        let woken = three_members(&rt, rt.alloc(), &text, 512, &observer)?;
+        let woken = three_members(&rt, rt.alloc(), &text, ONE_EXIT, 512, &observer)?;
         assert!(rt; woken, "a member sleeps though all regions are at the goal");
         assert!(rt; observer.took_place(), "each came to its part");
     }
@@ -133,7 +136,7 @@ fn a_member_is_told_of_moves_during_its_sweep(rt: HostRuntime) -> Result<(), Fai
 fn a_member_is_told_of_moves_after_the_first_of_a_sweep(rt: HostRuntime) -> Result<(), Fail> {
     let text = last_ones(rt.alloc(), 0)?;
     let observer = LastMoves::new(4, 100_000, true);
-    let woken = three_members(&rt, rt.alloc(), &text, 6, &observer)?;
+    let woken = three_members(&rt, rt.alloc(), &text, ONE_EXIT, 6, &observer)?;
     assert!(rt; woken, "a member sleeps though all regions are at the goal");
     assert!(rt; observer.took_place(), "each came to its part");
     Ok(())

@@ -7,7 +7,7 @@ use crate::last_moves::LastMoves;
 use network_file::{MOST_BYTES, Net};
 use no_memory::NoMemory;
 use parked_crew::{Board, parked};
-use region_cut::{Layout, charted};
+use region_cut::charted;
 use region_slots::{Field, NoObserver, Pass};
 use region_step::Setup;
 use std::alloc::Global;
@@ -17,15 +17,13 @@ use std::sync::atomic::{AtomicU64, Ordering};
 use std::test::Fail;
 use std::thread::{Threads, join_mut, yield_now};
 
-// A network of one region, whose moves wake the crew of another where nobody else does.
-const ONE_EXIT: &[u8] = b"ctm,1\nsteps,1\nexit,x,1\n";
-
-// Whether three members of a crew come past an observer to the last step of the network in a file, each cell a region,
-// without being woken from outside.
+// Whether three members of a crew come past an observer to the last step of the network in a file, each cell a region, without
+// being woken from outside. Where nobody else wakes them, the moves of another network's crew do.
 pub(crate) fn three_members<R: Abort + Threads + Wait + Sync>(
     rt: &R,
     alloc: Global,
     text: &[u8],
+    outside: &[u8],
     regions: u32,
     observer: &LastMoves,
 ) -> Result<bool, Fail>
@@ -33,26 +31,54 @@ pub(crate) fn three_members<R: Abort + Threads + Wait + Sync>(
     requires few { regions ≤ MOST_REGIONS }
 {
     assert!(rt; text.len() <= MOST_BYTES);
+    assert!(rt; outside.len() <= MOST_BYTES);
     let net = Net::read(alloc, text)?;
-    let other = Net::read(alloc, ONE_EXIT)?;
-    let layout = charted(alloc, &net, regions)?;
-    let outside = charted(alloc, &other, 1)?;
-    Ok(on_fields(rt, alloc, layout, outside, observer)?)
+    let outside = Net::read(alloc, outside)?;
+    Ok(on_networks(rt, alloc, &net, &outside, regions, observer)?)
 }
 
-// The same of networks that are cut.
-fn on_fields<R: Threads + Wait + Sync>(
+// The same of networks that are read.
+fn on_networks<R: Threads + Wait + Sync>(
     rt: &R,
     alloc: Global,
-    layout: Layout<'_>,
-    outside: Layout<'_>,
+    net: &Net,
+    outside: &Net,
+    regions: u32,
+    observer: &LastMoves,
+) -> Result<bool, NoMemory>
+    requires some { 1 ≤ regions }
+    requires few { regions ≤ MOST_REGIONS }
+{
+    let layout = charted(alloc, net, regions)?;
+    let setup = Setup::zero(alloc, layout, 0)?;
+    beside(rt, alloc, &setup, outside, observer)
+}
+
+// The same of a network that is set up, beside the other one.
+fn beside<R: Threads + Wait + Sync>(
+    rt: &R,
+    alloc: Global,
+    setup: &Setup<'_>,
+    outside: &Net,
     observer: &LastMoves,
 ) -> Result<bool, NoMemory> {
-    let (last, soon) = (layout.net().steps, outside.net().steps);
-    let setup = Setup::zero(alloc, layout, 0)?;
-    let other = Setup::zero(alloc, outside, 0)?;
-    let (field, pass) = Field::open(alloc, &setup, 3)?;
-    let (bell, ringer) = Field::open(alloc, &other, 1)?;
+    let layout = charted(alloc, outside, 1)?;
+    let other = Setup::zero(alloc, layout, 0)?;
+    on_setups(rt, alloc, setup, &other, observer)
+}
+
+// The same of both set up.
+fn on_setups<R: Threads + Wait + Sync>(
+    rt: &R,
+    alloc: Global,
+    setup: &Setup<'_>,
+    other: &Setup<'_>,
+    observer: &LastMoves,
+) -> Result<bool, NoMemory> {
+    let last = setup.layout().net().steps;
+    let soon = other.layout().net().steps;
+    let (field, pass) = Field::open(alloc, setup, 3)?;
+    let (bell, ringer) = Field::open(alloc, other, 1)?;
     Ok(is_woken(rt, &field, pass, last, &bell, ringer, soon, observer))
 }
 
