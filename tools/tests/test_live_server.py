@@ -255,3 +255,55 @@ def test_changes_that_were_not_saved_are_kept(tmp_path, capfd):
     assert "short.unsaved-2.toml" in capfd.readouterr().err
     with pytest.raises(Problem, match="can't be kept"):
         _keep_unsaved(tmp_path / "none" / "short.toml", STUDY)
+
+
+@pytest.mark.parametrize("request_line", [b"\x16\x03\x01\x02\xff\x00", b"GET /%ff%fe/ HTTP/1.1", b"GET /\xff\xfe/ HTTP/1.1", b"GET //[ HTTP/1.1"])
+def test_what_isnt_meant_for_it_leaves_no_traceback(path, program, caplog, request_line):
+    async def use(server, address, client):
+        reader, writer = await asyncio.open_connection("127.0.0.1", server.port)
+        writer.write(request_line + b"\r\nHost: 127.0.0.1:%d\r\n\r\n" % server.port)
+        status = (await reader.readline()).split()[1]
+        writer.close()
+        async with client.get(address) as answer:
+            return status, answer.status
+    status, after = served(Session.of_file(path), use)
+    assert status in (b"400", b"403") and after == 200
+    assert not [record for record in caplog.records if record.exc_info]
+
+
+@pytest.mark.parametrize("text", ["[" * 100_000, '{"do":' * 100_000, "[]", '{"do": ["undo"]}', '{"do": "change", "patches": [["title"]]}',
+                                  '{"do": "change", "patches": [["title", 1e999]]}', '{"do": "text"}'])
+def test_an_order_that_is_none_is_refused_and_the_page_stays(path, program, caplog, text):
+    async def use(server, address, client):
+        async with joined(client, address) as page:
+            await page.send_str(text)
+            refused = await heard(page, "refused")
+            await page.send_str(json.dumps({"do": "change", "patches": [["title", "Still here"]]}))
+            await heard(page, "study", lambda study: "Still here" in study["text"])
+            return refused["line"]
+    assert served(Session.of_file(path), use)
+    assert not [record for record in caplog.records if record.exc_info]
+
+
+def test_a_text_nested_too_deeply_is_a_fault_and_the_next_is_drawn(path, program):
+    async def use(server, address, client):
+        async with joined(client, address) as page:
+            await page.send_str(json.dumps({"do": "text", "text": f"a = {'[' * 100_000}"}))
+            await heard(page, "study", lambda study: "nested too deeply" in (study["unreadable"] or ""))
+            await heard(page, "fault", lambda message: message["fault"])
+            await page.send_str(json.dumps({"do": "undo"}))
+            await heard(page, "fault", lambda message: message["fault"] is None and message["version"] == 2)
+    served(Session.of_file(path), use)
+
+
+def test_a_fault_of_the_tools_is_told_and_the_next_text_is_drawn(path, program, monkeypatch):
+    async def use(server, address, client):
+        whole = server.drawing.results.of
+        monkeypatch.setattr(server.drawing.results, "of", lambda text: whole(text) if "Odd" not in text else [][1])
+        async with joined(client, address) as page:
+            await page.send_str(json.dumps({"do": "change", "patches": [["title", "Odd"]]}))
+            fault = await heard(page, "fault", lambda message: message["fault"])
+            await page.send_str(json.dumps({"do": "undo"}))
+            await heard(page, "fault", lambda message: message["fault"] is None and message["version"] == 2)
+            return fault["fault"]["line"]
+    assert "a fault of these tools, IndexError" in served(Session.of_file(path), use)

@@ -1,13 +1,15 @@
 """A study while it is changed by the page that answers: patches, undoing, saving, and results that are those of `run`."""
 
+import os
 import random
+from pathlib import Path
 
 import pytest
 
 from ctmtools.live.document import patched
 from ctmtools.live.fields import fields_of, value_typed, values_in
 from ctmtools.live.results import Results, fault_of, packet, page_data, write_report
-from ctmtools.live.session import MOST_PLANS, Session
+from ctmtools.live.session import MOST_LETTERS, MOST_PLANS, Session
 from ctmtools.problem import NoSuchKey, Problem
 
 # 2 km at 90 km/h are 8 cells of 250 m in steps of 10 s; ten minutes are 60 steps.
@@ -297,3 +299,42 @@ def test_plans_of_other_times_do_not_stand_beside(session, program):
 def test_a_key_that_is_none():
     with pytest.raises(NoSuchKey):
         patched(STUDY, [("", 1)])
+
+
+def test_half_a_letter_is_refused_since_no_file_can_have_it(session):
+    with pytest.raises(Problem, match="half a letter"):
+        session.replace(f"{session.text}# \ud800")
+    assert session.version == 0 and session.text == STUDY
+
+
+def test_more_keys_at_once_than_a_page_has_are_refused(session):
+    with pytest.raises(Problem, match="10,000 keys at once; at most 100 are changed"):
+        session.change([("title", str(i)) for i in range(10_000)])
+    assert session.version == 0
+
+
+@pytest.mark.parametrize("value", ["x" * 10_001, ["x", {"y": "x" * 10_001}]])
+def test_a_text_that_would_take_long_is_refused(session, value):
+    with pytest.raises(Problem, match="title: a text has at most 10,000 letters"):
+        session.change([("title", value)])
+    assert session.text == STUDY
+
+
+def test_a_pipe_or_a_huge_file_in_the_place_of_the_study_is_changed_and_not_read(session, monkeypatch):
+    monkeypatch.setattr(Path, "read_bytes", lambda path: pytest.fail("it is read"))
+    with open(session.path, "wb") as file:
+        file.truncate(1 << 32)
+    assert session.on_disk() == "changed"
+    session.path.unlink()
+    os.mkfifo(session.path)
+    assert session.on_disk() == "changed"
+
+
+def test_what_can_be_undone_of_large_texts_is_bounded(session):
+    for i in range(20):
+        session.replace(f"#{i}" + " " * (MOST_LETTERS // 4))
+    done = 0
+    while session.can_undo:
+        session.undo()
+        done += 1
+    assert done == 3

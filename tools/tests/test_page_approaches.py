@@ -1,6 +1,7 @@
 """What a page shows of approaches: their tables, queues over time, where it opens, and what its maker says of it."""
 
 import base64
+import os
 import re
 
 import pytest
@@ -67,3 +68,14 @@ def test_title_author_and_logo_are_the_makers_own(crossing, tmp_path):
     assert "Office of roads \\u003cT>" in page and "img-src data:;" in re.search('content="([^"]*)"', page)[1] + ";"
     with pytest.raises(Problem, match="--logo .*town.txt: expected a picture, .png, .jpg, .jpeg, .svg"):
         data_of([crossing], heading=Heading(logo=tmp_path / "town.txt"))
+
+
+def test_a_logo_that_may_have_no_end_or_is_large_is_refused_before_it_is_read(crossing, tmp_path, monkeypatch):
+    monkeypatch.setattr("ctmtools.pages.content.read_bytes", lambda path: pytest.fail("it is read"))
+    os.mkfifo(tmp_path / "pipe.png")
+    (tmp_path / "device.png").symlink_to("/dev/zero")
+    with open(tmp_path / "large.png", "wb") as file:
+        file.truncate(1 << 32)
+    for name, fault in [("pipe.png", "is a pipe or a device"), ("device.png", "is a pipe or a device"), ("large.png", "has 4,294,967,296 bytes")]:
+        with pytest.raises(Problem, match=f"--logo .*{name}: {fault}"):
+            Heading(logo=tmp_path / name).logo_data()

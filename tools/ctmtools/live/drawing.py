@@ -8,7 +8,7 @@ from collections.abc import Awaitable, Callable, Sequence
 from contextlib import suppress
 from typing import Any
 
-from ..problem import Problem
+from ..problem import Problem, one_line
 from .results import HERE, Result, Results, fault_of, frame_bounds, layout_of, packet, page_data, picture_data
 from .session import Session
 
@@ -124,8 +124,12 @@ async def in_a_thread(work: Callable[..., Any], *words: Any) -> Any:
     def do() -> None:
         try:
             outcome = (found.set_result, work(*words))
-        except Exception as error:
-            outcome = (found.set_exception, error)
+        except Problem as problem:
+            outcome = (found.set_exception, problem)
+        except RecursionError:
+            outcome = (found.set_exception, Problem("the study: is nested too deeply"))
+        except Exception as error:  # a fault of these tools, behind which the page goes on
+            outcome = (found.set_exception, Problem(f"a fault of these tools, {type(error).__name__}: {one_line(error)}"))
         with suppress(RuntimeError):  # the server has ended meanwhile
             loop.call_soon_threadsafe(give, *outcome)
 

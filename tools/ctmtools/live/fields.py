@@ -33,7 +33,9 @@ def values_in(text: str) -> dict[str, Any]:
     """The values of a study's text as TOML has them, or the problem that they can't be read."""
     try:
         return tomllib.loads(text)
-    except (tomllib.TOMLDecodeError, ValueError, RecursionError) as error:
+    except RecursionError:
+        raise Problem("the study: is nested too deeply") from None
+    except (tomllib.TOMLDecodeError, ValueError) as error:
         raise Problem(f"the study: {error}") from None
 
 

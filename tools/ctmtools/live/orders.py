@@ -39,7 +39,7 @@ class Orders:
             self._at_once[order["do"]](order)
         except Problem as problem:
             return {"kind": "refused", **fault_of(problem, self.session.path), "of": order.get("key", "")}
-        except (ValueError, KeyError, TypeError, AttributeError):
+        except Exception:  # whatever a page says, the server goes on
             return {"kind": "refused", "key": "", "line": "this can't be done", "of": ""}
         return None
 
@@ -51,6 +51,8 @@ class Orders:
             fault = None
         except Problem as problem:
             fault = str(problem)
+        except RecursionError:
+            fault = "the study: is nested too deeply"
         return {"kind": "study", "name": session.path.name, "version": session.version, "text": session.text, "fields": self._fields,
                 "unreadable": fault, "known": KNOWN, "undo": session.can_undo, "redo": session.can_redo, "saved": session.is_saved,
                 "disk": session.on_disk(), "plans": list(session.plans), "against": self.drawing.against}

@@ -10,6 +10,7 @@ import asyncio
 import errno
 import hmac
 import json
+import logging
 import secrets
 from collections.abc import Awaitable, Callable
 from contextlib import suppress
@@ -51,10 +52,11 @@ class Server:
 
     async def begin(self, port: int = 0) -> str:
         """Listens on a port, 0 for any that is free, and gives the address of the page; a problem where the port is taken."""
+        asyncio.get_running_loop().set_exception_handler(_passed_over)
         application = web.Application(middlewares=[self._guarded])
         application.router.add_get("/{secret}/socket", self._socket)
         application.router.add_get("/{secret}/{name:[a-z0-9_.]*}", self._file)
-        self._runner = web.AppRunner(application, access_log=None)
+        self._runner = web.AppRunner(application, access_log=None, logger=_silent_logger())
         await self._runner.setup()
         site = web.TCPSite(self._runner, LOOPBACK, port, shutdown_timeout=SOON)
         try:
@@ -108,7 +110,7 @@ class Server:
         if request.path.endswith("/socket") and origin is None:
             return "no page asks"
         secret = request.path.strip("/").split("/")[0]
-        return None if hmac.compare_digest(secret.encode(), self.secret.encode()) else "the address lacks the secret"
+        return None if hmac.compare_digest(secret.encode(errors="replace"), self.secret.encode()) else "the address lacks the secret"
 
     @web.middleware
     async def _guarded(self, request: web.Request, handler: Handler) -> web.StreamResponse:
@@ -172,6 +174,19 @@ class Server:
             if now != told:
                 told = now
                 await self.send(self.orders.state())
+
+
+def _passed_over(loop: asyncio.AbstractEventLoop, context: dict[str, Any]) -> None:
+    """What the end of a broken connection leaves: no fault of the study, and nothing for the terminal."""
+
+
+def _silent_logger() -> logging.Logger:
+    """Takes what isn't HTTP, which anybody on this machine can send, and would have its traceback in the terminal."""
+    logger = logging.getLogger(__name__)
+    logger.propagate = False
+    if not logger.handlers:
+        logger.addHandler(logging.NullHandler())
+    return logger
 
 
 async def send_to(page: web.WebSocketResponse, message: dict[str, Any] | bytes) -> None:

@@ -2,9 +2,10 @@
 
 from __future__ import annotations
 
-from collections.abc import Sequence
+from collections.abc import Iterator, Sequence
 from dataclasses import dataclass, field
 from pathlib import Path
+from stat import S_ISREG
 from typing import Any
 
 from ..files.reading import read_bytes
@@ -16,6 +17,9 @@ from .fields import value_typed, values_in
 
 MOST_PLANS = 8
 MOST_DONE = 1000  # changes that can be undone
+MOST_LETTERS = 1 << 26  # of the texts to which they lead back
+MOST_PATCHES = 100  # of one change; a page has some ten, and each reads the whole text
+MOST_TEXT = 10_000  # letters of one text, since the time in which tomlkit escapes it grows by their square
 NEW = '''title = "A new study"
 step = 10  # s
 start = "06:00"
@@ -48,6 +52,15 @@ def read_text(path: Path) -> str:
         return read_bytes(path).decode("utf-8")
     except UnicodeDecodeError:
         raise Problem(f"{path}: a study file is UTF-8; save it so") from None
+
+
+def _texts(value: Any) -> Iterator[str]:
+    """The texts of a value, also those of its lists and tables."""
+    if isinstance(value, str):
+        yield value
+    elif isinstance(value, (list, dict)):
+        for one in value.values() if isinstance(value, dict) else value:
+            yield from _texts(one)
 
 
 @dataclass
@@ -94,6 +107,11 @@ class Session:
 
     def change(self, patches: Sequence[Patch], group: str | None = None) -> None:
         """Changes keys; changes of one group, as of one drag, are undone together. On a problem nothing is changed."""
+        if len(patches) > MOST_PATCHES:
+            raise Problem(f"{len(patches):,} keys at once; at most {MOST_PATCHES} are changed")
+        for key, value in patches:
+            if any(len(text) > MOST_TEXT for text in _texts(value)):
+                raise Problem(f"{key}: a text has at most {MOST_TEXT:,} letters")
         self.replace(patched(self.text, patches), group)
 
     def type(self, key: str, typed: str) -> None:
@@ -107,11 +125,15 @@ class Session:
             return None
 
     def replace(self, text: str, group: str | None = None) -> None:
-        """Takes another text."""
+        """Takes another text, which a file can have."""
         if text == self.text:
             return
+        try:
+            text.encode()
+        except UnicodeEncodeError:
+            raise Problem("the study: has half a letter, which no file can have") from None
         if group is None or group != self._group:
-            self._done = [*self._done, self.text][-MOST_DONE:]
+            self._done = [*self._done, self.text][-max(1, min(MOST_DONE, MOST_LETTERS // max(1, len(text)))):]
         self._group, self._undone = group, []
         self._take(text)
 
@@ -135,8 +157,12 @@ class Session:
 
     def on_disk(self) -> str:
         """How the file stands to what this session read or wrote last: `same`, `changed`, or `gone`."""
+        saved = None if self.saved is None else self.saved.encode()
         try:
-            return "same" if self.path.read_bytes().decode("utf-8", "replace") == self.saved else "changed"
+            found = self.path.stat()  # first, since a pipe or a device that took its place may have no end
+            if saved is None or not S_ISREG(found.st_mode) or found.st_size != len(saved):
+                return "changed"
+            return "same" if self.path.read_bytes() == saved else "changed"
         except OSError:
             return "same" if self.saved is None else "gone"
 

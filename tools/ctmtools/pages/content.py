@@ -54,10 +54,16 @@ class Heading:
         kind = LOGOS.get(self.logo.suffix.lower())
         if kind is None:
             raise Problem(f"--logo {self.logo}: expected a picture, {', '.join(LOGOS)}")
+        self._check_logo(self.logo)
         content = read_bytes(self.logo)
-        if len(content) > MOST_LOGO:
-            raise Problem(f"--logo {self.logo}: has {len(content):,} bytes, and a page takes {MOST_LOGO:,}")
         return f"data:{kind};base64,{b64encode(content).decode()}"
+
+    def _check_logo(self, logo: Path) -> None:
+        """Refuses what may have no end and what is too large, before any of it is read."""
+        if logo.is_fifo() or logo.is_socket() or logo.is_char_device() or logo.is_block_device():
+            raise Problem(f"--logo {logo}: is a pipe or a device, and a file is wanted")
+        if logo.is_file() and (size := logo.stat().st_size) > MOST_LOGO:
+            raise Problem(f"--logo {logo}: has {size:,} bytes, and a page takes {MOST_LOGO:,}")
 
 
 def data_of(reports: Sequence[Report], background: Background | None = None, draws: Path | None = None,
