@@ -118,3 +118,10 @@ def test_what_is_no_table_is_refused(tmp_path, content):
     path.write_bytes(content)
     with pytest.raises(Problem, match="x.units.json: "):
         read_units(path)
+
+
+def test_an_approach_without_movements_is_refused(tmp_path):
+    path = tmp_path / "x.units.json"
+    path.write_text(json.dumps({"approaches": [{"name": "a", "road": "m", "last": "m1", "movements": []}]}))
+    with pytest.raises(Problem, match=r"approaches.1.movements: expected 1 entries or more"):
+        read_units(path)
