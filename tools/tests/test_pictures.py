@@ -139,6 +139,7 @@ def test_names_that_find_no_room_are_counted(kind, names):
 def test_bars_that_are_left_out_are_told(report):
     read = report("grid")
     delays = read.by_road().set_index("road").delay  # of twelve roads, those before a junction with what waits in its cells
+    delays = delays[~delays.index.str.startswith("gate ")]
     shown = delays[delays >= 0.0005 * delays.sum()]
     assert len(delays) == 12 and len(shown) == 8 and f"{12 - len(shown)} roads with less than 0.05% of the delay are left out" in texts(plot(read, "delay"))
     assert "others are left out" in texts(plot(many_roads(160), "delay"))
