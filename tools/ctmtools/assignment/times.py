@@ -22,7 +22,7 @@ from .courses import Courses
 FIRST = 1.0
 GREW, FELL = 0.5, 0.02  # what a round adds to the divisor of the pace where the gap grew, and where it fell
 STEEP = 6.0  # so much of a way's drivers move for each part that it takes more than the best, at a pace of 1
-JUMPED = 5.0  # times the gap of the best round, above which the next one goes on from there
+JUMPED = 20.0  # times the gap of the best round, above which the next one goes on from there
 FEW = 1e-3  # of a pair's drivers; where fewer are left on a way they move too
 
 
