@@ -1,5 +1,7 @@
 """The page that answers in a browser without a window: what is typed and dragged there, and what is seen then."""
 
+import time
+
 import pytest
 from selenium.webdriver.common.action_chains import ActionChains
 from selenium.webdriver.common.by import By
@@ -8,7 +10,7 @@ from selenium.webdriver.common.keys import Keys
 from ctmtools.live.fields import values_in
 from ctmtools.live.session import Session
 
-from .live_pages import begun_browser, is_drawn, opened, serving, until
+from .live_pages import PATIENCE, begun_browser, is_drawn, opened, serving, until
 from .test_live_session import STUDY
 
 
@@ -110,16 +112,26 @@ def test_a_box_is_drawn_moved_and_widened_by_pointer(browser, session):
             return (round(46 + minute / 10 * (wide - 64) - wide / 2), round(high - 24 - km / 2 * (high - 42) - high / 2))
         drag(browser, space, at(2, 1), at(5, 1.5))
         until(browser, "document.querySelector('#live-boxes g.box[data-key=\"closures.1\"]') !== null")
-        assert closure(session) == {"road": "m", "from": 1.0, "to": 1.5, "start": "06:02", "end": "06:05", "lanes": 1}
+        comes_to(browser, session, {"road": "m", "from": 1.0, "to": 1.5, "start": "06:02", "end": "06:05", "lanes": 1})
         drag(browser, space, at(3.5, 1.25), at(4.5, 1))
         until(browser, "document.querySelector('[data-key=\"closures.1.start\"]').value === '06:03'")
-        assert closure(session) == {"road": "m", "from": 0.75, "to": 1.25, "start": "06:03", "end": "06:06", "lanes": 1}
+        comes_to(browser, session, {"road": "m", "from": 0.75, "to": 1.25, "start": "06:03", "end": "06:06", "lanes": 1})
         drag(browser, space, at(6, 1), at(8, 1))
         until(browser, "document.querySelector('[data-key=\"closures.1.end\"]').value === '06:08'")
-        assert closure(session)["start"] == "06:03" and browser.get_log("browser") == []
+        comes_to(browser, session, {"road": "m", "from": 0.75, "to": 1.25, "start": "06:03", "end": "06:08", "lanes": 1})
+        assert browser.get_log("browser") == []
         for _ in range(3):
             session.undo()
         assert session.text == STUDY
+
+
+def comes_to(browser, session, wanted):
+    """Waits until the closure is as it is wanted and drawn so: what is dragged comes there by other values."""
+    end = time.monotonic() + PATIENCE
+    while closure(session) != wanted:
+        assert time.monotonic() < end, closure(session)
+        time.sleep(0.02)
+    is_drawn(browser, session.version)
 
 
 def drag(browser, element, first, last):
