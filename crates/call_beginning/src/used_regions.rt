@@ -1,7 +1,8 @@
 ghost use Rattle.std.specs.Prelude.{◌≡◌, ◌≤◌, length};
 ghost use Rattle.command_words.specs.Words.{IsInRange};
 ghost use Rattle.network_file.specs.declared.limits.TheConstants.{MOST_REGIONS};
-ghost use Rattle.call_beginning.specs.UsedRegions.{chosen_regions, regions_wanted};
+ghost use Rattle.command_words.specs.declared.region_choice.RegionChoice.TheVariants.{Auto};
+ghost use Rattle.call_beginning.specs.UsedRegions.{regions_by, regions_wanted};
 
 use command_words::{RegionChoice, Request};
 use network_file::Net;
@@ -32,7 +33,7 @@ pub fn regions_wanted(net: &Net, request: Request) -> u32
 // The number that is chosen for so many cells and workers.
 fn chosen_regions(cells: u32, workers: u32) -> u32
     requires { workers ≤ 16 }
-    ensures chosen { result ≡ chosen_regions cells workers }
+    ensures chosen { result ≡ regions_by cells workers Auto }
     ensures some { 1 ≤ result }
     ensures few { result ≤ MOST_REGIONS }
 {

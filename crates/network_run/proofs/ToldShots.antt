@@ -2,7 +2,7 @@
 use Rattle.std.proofs.Common.{◌≡◌, ℕ, ◌+◌, ◌<◌, ◌++◌, List, sym, subst}
 use Rattle.network_file.specs.Network.{Network}
 use Rattle.region_cut.specs.Chart.{list_at}
-use Rattle.snapshot.specs.Shots.{IsShotBetween, goal_of}
+use Rattle.snapshot.specs.Shots.{AreStepsBetween, goal_of}
 use Rattle.shot_lines.specs.Shots.{AreShots}
 use Rattle.shot_lines.proofs.ManyShots.{AreFirstShots, shot_of, shots-more}
 use Rattle.region_slots.specs.CutRun.{CutRun}
@@ -15,7 +15,7 @@ AreFirstTold watching watched run net cut shots count text =
 
 -- one shot more
 pub first_told-more : (watching : TellingOfWatchers) (watched : TellingOfShots) (run : CutRun) (net : Network) (cut : List ℕ) (shots k : ℕ) (text steps : List ℕ) →
-    AreFirstTold watching watched run net cut shots k text → IsShotBetween net cut (goal_of net.steps shots k) (goal_of net.steps shots (k + 1)) steps →
+    AreFirstTold watching watched run net cut shots k text → AreStepsBetween net cut (goal_of net.steps shots k) (goal_of net.steps shots (k + 1)) steps →
     HasToldShot watching watched run (goal_of net.steps shots k) steps → AreFirstTold watching watched run net cut shots (k + 1) (text ++ shot_of net cut (k + 1) steps)
 first_told-more watching watched run net cut shots k text steps (are, told) next here =
     shots-more (λ i. HasToldShot watching watched run (goal_of net.steps shots i)) net cut shots k text steps are told next here

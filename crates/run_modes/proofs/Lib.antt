@@ -1,2 +1,3 @@
 pub mod Daganzo
 pub mod PlainRun
+pub mod WatchedShots

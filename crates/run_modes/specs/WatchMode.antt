@@ -22,8 +22,7 @@ abbrev pub watch_refused : Task → Option Why
 watch_refused task = why_of_network (network_of task.input) (λ net. option_or (why_unrecorded net task.request.every) (why_unshown net task.request.shots))
 
 -- the text of a run that is watched, in a cutting for the request: its shots, of which each shows the regions at lawful steps
--- between two goals, the rows of the plain recurrences at each region's own step, books that balance and roads that keep their
--- room (`AreShots`), and then the report
+-- between two goals and the rows of the plain recurrences at each region's own step (`AreShots`), and then the report
 pub record HasShotsAndReport (net : Network) (request : Request) (whole : List ℕ) : Type 0 where
   pub cut : List ℕ
   pub cutting : IsCuttingOf net request cut

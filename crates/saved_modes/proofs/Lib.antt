@@ -3,3 +3,4 @@ pub mod Resumed
 pub mod ResumedAs
 pub mod Resuming
 pub mod Saved
+pub mod SavedRun

@@ -3,29 +3,17 @@ use Rattle.std.specs.Prelude.{IsSomeAnd}
 use Rattle.std.proofs.Common.{◌≡◌, ℕ, ◌≤◌, List, Option, Some, None, length, sym, ap, ◌∙◌, arith}
 use Rattle.network_file.specs.Network.{Network}
 use Rattle.network_file.specs.Sound.{IsNetwork}
-use Rattle.region_cut.specs.LawfulSteps.{AreLawful}
-use Rattle.region_step.specs.Start.{StartLists}
-use Rattle.region_step.specs.Starting.{IsTrueStart}
 use Rattle.saved_run.specs.Content.{Content}
 use Rattle.saved_run.specs.Laws.{HasTrueStart}
 use Rattle.saved_run.specs.Loading.{cutting_in, start_in}
 use Rattle.saved_run.specs.Reading.{content_of}
 use Rattle.saved_run.specs.SavedLength.{most_saved}
-use Rattle.delay_report.specs.FromStart.{report_from}
-use Rattle.delay_report.specs.Report.{report_of, report_with}
-use Rattle.delay_report.proofs.FromStart.{last_rows-true, report_with-none, state_note}
+use Rattle.delay_report.specs.Report.{report_of}
 use Rattle.call_beginning.specs.NetworkInput.{why_of_network}
 use Rattle.saved_modes.specs.ResumedAs.{IsResumedAs}
 use Rattle.saved_modes.specs.ResumeMode.{IsGoneOn, why_by_content, why_by_cutting}
-use Rattle.saved_modes.proofs.Resumed.{resumed-report}
+use Rattle.saved_modes.proofs.Resumed.{report_from-true, resumed-report}
 use Rattle.saved_modes.proofs.Resuming.{can-start}
-
--- from a true start with lawful steps a run comes to the report of the plain recurrences
-report_from-true : (net : Network) (cut : List ℕ) (start : StartLists) → IsNetwork net → AreLawful net cut start.steps → IsTrueStart net cut start →
-    report_from net cut start ≡ report_of net 0
-unfolding report_of
-report_from-true net cut start sound lawful true_start =
-    sym (report_with-none net cut start (state_note net)) ∙ ap (report_with net 0 (state_note net)) (last_rows-true net cut start sound lawful true_start)
 
 -- nothing stands against a text that begins true
 why-begun : (found : Option Content) (net : Network) (cut : List ℕ) → IsSomeAnd found (λ content. HasTrueStart content net cut) → why_by_content found ≡ None
@@ -42,7 +30,6 @@ report-gone_on (Some content) net cut text sound begins is = record {
   cut = cut;
   cut_so = begins.cut_so;
   text = is ∙ sym (report_from-true net cut (start_in content) sound begins.can_start.lawful begins.true_start);
-  plain = λ true_start. is;
 }
 
 pub begins-resumed_as : (net : Network) (cut saved : List ℕ) → IsNetwork net → IsSomeAnd (content_of saved) (λ content. HasTrueStart content net cut) → length saved ≤ most_saved → IsResumedAs (report_of net 0) saved

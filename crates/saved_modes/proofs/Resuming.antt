@@ -5,7 +5,6 @@ use Rattle.std.proofs.lemmas.Bool.{false_from_ne_true}
 use Rattle.network_file.specs.Network.{Network}
 use Rattle.region_cut.specs.Chart.{ChartLists, chart_of}
 use Rattle.region_step.specs.Start.{StartLists}
-use Rattle.region_step.specs.Starting.{IsTrueStart}
 use Rattle.saved_run.specs.Content.{Content}
 use Rattle.saved_run.specs.Loading.{CanStart, GoesOn, IsCutSo, IsLoadFault, cutting_in, start_in}
 use Rattle.saved_run.specs.Startable.{can_start}
@@ -13,7 +12,6 @@ use Rattle.saved_run.specs.declared.fault.LoadFault.{LoadFault}
 use Rattle.saved_run.specs.declared.fault.LoadFault.TheVariants as fault
 use Rattle.saved_run.proofs.Starting.{can_start-is}
 use Rattle.delay_report.specs.FromStart.{report_from}
-use Rattle.delay_report.specs.Report.{report_of}
 use Rattle.call_ending.specs.Why.{Why}
 use Rattle.call_beginning.specs.NetworkInput.{why_of_network}
 use Rattle.network_run.specs.Telling.{HasTold, Telling}
@@ -58,14 +56,13 @@ loaded-starts (Some content) net chart start loaded = loaded.can_start
 
 -- its report is the text
 pub gone-on : (found : Option Content) (net : Network) (chart : ChartLists) (start : StartLists) (text : List ℕ) → IsSomeAnd found (λ content. GoesOn content net chart start) → text ≡ report_from net chart.cut start →
-    (IsTrueStart net chart.cut start → text ≡ report_of net 0) → IsSomeAnd found (λ content. IsGoneOn content text)
-gone-on None net chart start text loaded is plain = absurd loaded
-gone-on (Some content) net chart start text loaded is plain = record {
+    IsSomeAnd found (λ content. IsGoneOn content text)
+gone-on None net chart start text loaded is = absurd loaded
+gone-on (Some content) net chart start text loaded is = record {
   net = net;
   cut = chart.cut;
   cut_so = loaded.cut_so;
   text = is ∙ ap (report_from net chart.cut) loaded.begins;
-  plain = λ true_start. plain (subst (IsTrueStart net chart.cut) (sym loaded.begins) true_start);
 }
 
 -- and what was told of its run

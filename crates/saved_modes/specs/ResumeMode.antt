@@ -2,7 +2,6 @@
 use Rattle.std.specs.Prelude.{◌≡◌, ℕ, List, IsSomeAnd, Option, Some, None, codes, if◌then◌else◌}
 use Rattle.network_file.specs.Network.{Network}
 use Rattle.network_file.specs.Reading.{network_of}
-use Rattle.region_step.specs.Starting.{IsTrueStart}
 use Rattle.saved_run.specs.Content.{Content}
 use Rattle.saved_run.specs.Loading.{IsCutSo, cutting_in, start_in}
 use Rattle.saved_run.specs.Reading.{content_of}
@@ -10,7 +9,6 @@ use Rattle.saved_run.specs.Startable.{can_start}
 use Rattle.saved_run.specs.declared.fault.LoadFault.{LoadFault}
 use Rattle.saved_run.specs.declared.fault.LoadFault.TheVariants as fault
 use Rattle.delay_report.specs.FromStart.{report_from}
-use Rattle.delay_report.specs.Report.{report_of}
 use Rattle.call_ending.specs.Why.{Why}
 use Rattle.call_ending.specs.declared.status.Status.TheVariants as status
 use Rattle.call_beginning.specs.NetworkInput.{network_refused, why_of_network}
@@ -46,8 +44,6 @@ pub record IsGoneOn (content : Content) (whole : List ℕ) : Type 0 where
   pub cut_so : IsCutSo content net cut
   -- the report, with no recorded steps, of the rows to which the regions come from where they start
   pub text : whole ≡ report_from net cut (start_in content)
-  -- from a true start it is the report of the plain recurrences
-  pub plain : IsTrueStart net cut (start_in content) → whole ≡ report_of net 0
 
 abbrev pub IsResumeText : Task → List ℕ → Type 0
 IsResumeText task text = IsSomeAnd (content_of task.input) (λ content. IsGoneOn content text)

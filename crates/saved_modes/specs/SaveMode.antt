@@ -1,5 +1,5 @@
 -- A run that is saved near a step: why it has no text, and which texts it may have.
-use Rattle.std.specs.Prelude.{◌≡◌, ℕ, zero, suc, List, Option, None, length, map, min, slice_index, IsOkAnd, IsSomeAnd}
+use Rattle.std.specs.Prelude.{◌≡◌, ℕ, zero, suc, List, Option, None, length, map, min, slice_index, IsOkAnd}
 use Rattle.std.specs.List.{range_with_len}
 use Rattle.command_words.specs.declared.request.Request.{Request}
 use Rattle.network_file.specs.Network.{Network}
@@ -8,17 +8,13 @@ use Rattle.flow_model.specs.State.{occupancy, row_at, state_at}
 use Rattle.region_cut.specs.Cuttings.{region_at}
 use Rattle.snapshot.specs.Shots.{AreStepsBetween}
 use Rattle.saved_run.specs.Content.{Content}
-use Rattle.saved_run.specs.Laws.{HasTrueStart}
-use Rattle.saved_run.specs.Reading.{content_of}
 use Rattle.saved_run.specs.SavedText.{saved_text}
 use Rattle.saved_run.specs.declared.row_line.RowLine.{RowLine}
 use Rattle.network_run.specs.Near.{near_end}
-use Rattle.delay_report.specs.Report.{report_of}
 use Rattle.call_ending.specs.Why.{Why}
 use Rattle.call_beginning.specs.NetworkInput.{why_of_network}
 use Rattle.call_beginning.specs.Task.{Task}
 use Rattle.call_beginning.specs.UsedCutting.{IsCuttingOf}
-use Rattle.saved_modes.specs.ResumedAs.{IsResumedAs}
 
 abbrev pub save_refused : Task → Option Why
 save_refused task = why_of_network (network_of task.input) (λ net. None)
@@ -49,10 +45,6 @@ pub record IsSavedRun (net : Network) (request : Request) (input : List ℕ) (te
   pub steps : List ℕ
   pub stand : AreStepsBetween net cut (min request.until net.steps) (near_end net request.until) steps
   pub saved : text ≡ saved_text (run_at net cut steps input)
-  -- it is read again as a run of this network, cut so, that goes on from there as from the beginning
-  pub begins : IsSomeAnd (content_of text) (λ content. HasTrueStart content net cut)
-  -- `resume` ends it with the report of the plain recurrences, which `run` writes where nothing is recorded
-  pub resumed : IsResumedAs (report_of net 0) text
 
 abbrev pub IsSaveText : Task → List ℕ → Type 0
 IsSaveText task text = IsOkAnd (network_of task.input) (λ net. IsSavedRun net task.request task.input text)

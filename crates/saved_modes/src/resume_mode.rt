@@ -1,10 +1,8 @@
 ghost use Rattle.std.specs.Prelude.{◌≡◌, ◌≤◌, IfErr, IfOk, IsOk, IsSomeAnd, None, Some};
 ghost use Rattle.command_words.specs.Words.{IsInRange};
-ghost use Rattle.region_step.specs.Starting.{IsTrueStart};
 ghost use Rattle.saved_run.specs.Loading.{CanStart, IsCutSo, start_in};
 ghost use Rattle.saved_run.specs.Reading.{content_of};
 ghost use Rattle.delay_report.specs.FromStart.{report_from};
-ghost use Rattle.delay_report.specs.Report.{report_of};
 ghost use Rattle.call_ending.specs.Refusing.{IsRefusalOf};
 ghost use Rattle.saved_modes.specs.ResumeMode.{IsResumeText, resume_refused, saved_refused, why_of_fault};
 ghost use Rattle.network_run.specs.Telling.{HasTold};
@@ -60,9 +58,6 @@ fn report_on<R: Threads + Sync, W: Observer>(
     requires can_start { CanStart layout.net layout.chart.cut start }
     requires workers { (1 ≤ workers) × (workers ≤ 16) }
     ensures text { IfOk result (λ text. text.items ≡ report_from layout.entry.net layout.entry.chart.cut start) }
-
-    // Of a true start it is the report of the plain recurrences.
-    ensures plain { IfOk result (λ text. IsTrueStart layout.entry.net layout.entry.chart.cut start → text.items ≡ report_of layout.entry.net 0) }
     ensures told { IsOk result → HasTold (W.told_held observer.now) (W.told_freed observer.now) (record { net = layout.entry.net; cut = layout.entry.chart.cut; start = start; every = 0 }) layout.entry.net.steps }
 {
     let net = layout.net();

@@ -10,7 +10,7 @@ use Rattle.network_file.specs.Network.{Network}
 use Rattle.line_fields.specs.Fields.{lines_of}
 use Rattle.line_fields.proofs.Lines.{lines_of-more, lines_of-same}
 use Rattle.region_cut.specs.Chart.{list_at}
-use Rattle.snapshot.specs.Shots.{IsShotBetween, goal_of, rows_at}
+use Rattle.snapshot.specs.Shots.{AreStepsBetween, goal_of, rows_at}
 use Rattle.shot_lines.specs.ShotText.{shot_lines}
 
 -- the text of a shot, whose rows are those of the plain recurrences
@@ -21,12 +21,12 @@ shot_of net cut number steps = shot_lines net cut number steps (rows_at net cut 
 pub record AreFirstShots (net : Network) (cut : List ℕ) (shots count : ℕ) (text : List ℕ) : Type 0 where
   pub steps : List (List ℕ)
   pub one_each : length steps ≡ count
-  pub each : (i : ℕ) → i < count → IsShotBetween net cut (goal_of net.steps shots i) (goal_of net.steps shots (i + 1)) (list_at steps i)
+  pub each : (i : ℕ) → i < count → AreStepsBetween net cut (goal_of net.steps shots i) (goal_of net.steps shots (i + 1)) (list_at steps i)
   pub lines : text ≡ flat_map (λ i. shot_of net cut (i + 1) (list_at steps i)) (range_with_len 0 count)
 
 -- one shot more, and what holds of each
 pub shots-more : (Holds : ℕ → List ℕ → Type 0) (net : Network) (cut : List ℕ) (shots k : ℕ) (text steps : List ℕ) (are : AreFirstShots net cut shots k text) →
-    ((i : ℕ) → i < k → Holds i (list_at are.steps i)) → IsShotBetween net cut (goal_of net.steps shots k) (goal_of net.steps shots (k + 1)) steps → Holds k steps →
+    ((i : ℕ) → i < k → Holds i (list_at are.steps i)) → AreStepsBetween net cut (goal_of net.steps shots k) (goal_of net.steps shots (k + 1)) steps → Holds k steps →
     (more : AreFirstShots net cut shots (k + 1) (text ++ shot_of net cut (k + 1) steps)) × ((i : ℕ) → i < k + 1 → Holds i (list_at more.steps i))
 unfolding lines_of
 shots-more Holds net cut shots k text steps are hold next here =
@@ -41,7 +41,7 @@ shots-more Holds net cut shots k text steps are hold next here =
       record {
         steps = all;
         one_each = length-append are.steps (steps ∷ []) ∙ ap (λ n. n + 1) are.one_each;
-        each = each (λ i. IsShotBetween net cut (goal_of net.steps shots i) (goal_of net.steps shots (i + 1))) are.each next;
+        each = each (λ i. AreStepsBetween net cut (goal_of net.steps shots i) (goal_of net.steps shots (i + 1))) are.each next;
         lines = ap (λ begun. begun ++ shot_of net cut (k + 1) steps) (are.lines ∙ lines_of-same (line are.steps) (line all) k (λ i before. ap (shot_of net cut (i + 1)) (front i before))) ∙
             ap (λ taken. lines_of (line all) k ++ shot_of net cut (k + 1) taken) last ∙ sym (lines_of-more (line all) k);
       },

@@ -4,10 +4,8 @@ use Rattle.std.proofs.lemmas.Result.{IfOk-weaker}
 use Rattle.region_cut.specs.Cuttings.{region_count}
 use Rattle.region_step.specs.Regions.{AreAt}
 use Rattle.region_step.specs.Setup.{SetupValue}
-use Rattle.region_step.specs.Starting.{IsTrueStart}
 use Rattle.region_slots.specs.Moments.{cut_run}
 use Rattle.delay_report.specs.FromStart.{report_from}
-use Rattle.delay_report.specs.Report.{report_of}
 use Rattle.network_run.specs.Telling.{HasTold, Telling}
 use Rattle.saved_modes.proofs.resume_mode.report_on.Goals as goal
 
@@ -36,13 +34,6 @@ returns-clause-text g c =
     IfOk-weaker c.report.result _ _ (λ text unrecorded.
     unrecorded (ap (λ (setup : SetupValue). setup.every) is) ∙ ap (λ (setup : SetupValue). report_from setup.net setup.chart.cut setup.start) is)
     c.report.ensures.unrecorded
-
-pub returns-clause-plain : goal.returns-clause-plain
-returns-clause-plain g c =
-    let is = c.in_ok-regions.ensures.setup ∙ c.new-setup.ensures in
-    IfOk-weaker c.report.result _ _ (λ text recurrences true_start.
-    recurrences (subst (λ (setup : SetupValue). IsTrueStart setup.net setup.chart.cut setup.start) (sym is) true_start) ∙ ap (λ (setup : SetupValue). report_of setup.net setup.every) is)
-    c.report.ensures.recurrences
 
 pub returns-clause-told : goal.returns-clause-told
 returns-clause-told g c = λ done.

@@ -11,7 +11,7 @@ pub returns-clause-text : goal.returns-clause-text
 returns-clause-text g c = (
   why-none (content_of c.args.input.now) c.in-Ok.saved.net c.in-Ok.saved.chart c.in-Ok.saved.start c.in-Ok.ensures.loaded,
   gone-on (content_of c.args.input.now) c.in-Ok.saved.net c.in-Ok.saved.chart c.in-Ok.saved.start c.in_ok-text.text.items c.in-Ok.ensures.loaded
-      (rw c.of-layout.ensures at c.in_ok-text.ensures.text) (rw c.of-layout.ensures at c.in_ok-text.ensures.plain),
+      (rw c.of-layout.ensures at c.in_ok-text.ensures.text),
 )
 
 pub returns-clause-told : goal.returns-clause-told

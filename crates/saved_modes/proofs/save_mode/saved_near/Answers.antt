@@ -1,22 +1,16 @@
-use Rattle.std.specs.Prelude.{IsSomeAnd}
 use Rattle.std.proofs.Common.{◌≡◌, length, min, arith, ap, refl, subst, ◌∙◌}
 use Rattle.network_file.specs.Network.{Network}
 use Rattle.network_file.specs.Sound.{IsNetwork}
 use Rattle.network_file.proofs.NetworkFacts.{few_cells}
-use Rattle.network_file.specs.Cutting.{IsCutting}
 use Rattle.region_cut.specs.Chart.{ChartLists}
 use Rattle.region_step.specs.Setup.{SetupValue, zero_setup}
-use Rattle.region_step.specs.Start.{StartLists, zero_start}
-use Rattle.region_step.proofs.StartLaws.{zero_start-fits, zero_start-lawful, zero_start-true}
+use Rattle.region_step.specs.Start.{zero_start}
 use Rattle.snapshot.specs.Shots.{AreStepsBetween}
 use Rattle.snapshot.specs.Snapshots.{IsSnapshot}
-use Rattle.saved_run.specs.Laws.{HasTrueStart, IsTrueShot}
-use Rattle.saved_run.specs.Reading.{content_of}
 use Rattle.saved_run.specs.SavedText.{saved_text}
 use Rattle.region_slots.specs.Moments.{cut_run}
 use Rattle.network_run.specs.Near.{near_end}
 use Rattle.network_run.specs.Telling.{HasTold, Telling, zero_run}
-use Rattle.saved_modes.proofs.ResumedAs.{begins-resumed_as}
 use Rattle.saved_modes.proofs.Saved.{shown-run}
 use Rattle.saved_modes.proofs.save_mode.saved_near.Goals as goal
 
@@ -39,17 +33,6 @@ returns-clause-told g c =
     let used = ap (λ (chart : ChartLists). chart.cut) (c.layout.ensures.chart ∙ ap (λ (s : SetupValue). s.chart) is) in
     let snapshot : IsSnapshot net chart.cut (zero_start net chart.cut) c.in_ok-room.room =
     subst (λ (s : SetupValue). IsSnapshot s.net s.chart.cut (zero_start s.net s.chart.cut) c.in_ok-room.room) is c.in_ok-room.ensures.snapshot in
-    let shot : IsTrueShot c.args.input.now net chart.cut (zero_start net chart.cut) c.in_ok-room.room = record {
-      network = c.requires.network;
-      sound = sound;
-      cutting = subst (λ cells. IsCutting cells chart.cut) one_each c.regions-regions.ensures.sound.cutting;
-      fits = zero_start-fits net chart.cut sound;
-      from = zero_start-lawful net chart.cut;
-      true_start = zero_start-true net chart.cut;
-      snapshot = snapshot;
-    } in
-    let begins = (subst (λ cut. (n : Network) (start : StartLists) → IsTrueShot c.args.input.now n cut start c.in_ok-room.room → IsSomeAnd (content_of c.in_ok-text.text.items) (λ content. HasTrueStart content n cut)) used
-    c.in_ok-text.ensures.true_start) net (zero_start net chart.cut) shot in
     let stand = subst (λ (s : SetupValue). AreStepsBetween s.net s.chart.cut (min c.from-until.result s.net.steps) (near_end s.net c.from-until.result) c.in_ok-room.room.steps) is c.in_ok-room.ensures.near in
     let held : Telling = g.W.Observer.told_held c.args.observer.now in
     let freed : Telling = g.W.Observer.told_freed c.args.observer.now in
@@ -62,8 +45,6 @@ returns-clause-told g c =
         steps = c.in_ok-room.room.steps;
         stand = subst (λ until. AreStepsBetween net chart.cut (min until net.steps) (near_end net until) c.in_ok-room.room.steps) c.from-until.ensures stand;
         saved = (rw used at c.in_ok-text.ensures.text) ∙ ap saved_text (shown-run net chart.cut c.in_ok-room.room sound one_each snapshot c.args.input.now);
-        begins = begins;
-        resumed = begins-resumed_as net chart.cut c.in_ok-text.text.items sound begins c.in_ok-text.ensures.short;
       },
       told,
     )

@@ -10,9 +10,9 @@ use Rattle.region_step.specs.Start.{zero_start}
 use Rattle.region_step.proofs.Steps.{zero_start-at}
 use Rattle.snapshot.specs.Rooms.{IsRoomFor, RoomValue}
 use Rattle.shot_lines.specs.ShotText.{shot_lines}
-use Rattle.snapshot.specs.Shots.{IsShotBetween, goal_of, rows_at}
+use Rattle.snapshot.specs.Shots.{AreStepsBetween, goal_of, rows_at}
 use Rattle.snapshot.specs.Snapshots.{IsSnapshot}
-use Rattle.snapshot.proofs.ShotLaws.{shot-between, shown-rows}
+use Rattle.snapshot.proofs.ShotLaws.{shown-rows}
 use Rattle.region_slots.proofs.Observed.{told-more}
 use Rattle.border_rows.specs.declared.view.Terms.{Terms}
 use Rattle.region_slots.specs.Moments.{AreTold, cut_run}
@@ -41,11 +41,12 @@ loop-i-preserved g c =
     let shows : IsSnapshot net cut (zero_start net cut) room = rw (same_net, same_chart, same_start) at came.snapshot in
     let count : region_count c.loop-i.self.terms.setup.now.chart.cut ≡ region_count cut = ap (λ chart. region_count chart.cut) same_chart in
     let zero : (r : ℕ) → slice_index c.loop-i.self.terms.setup.now.start.steps r ≡ 0 = λ r. ap (λ start. slice_index start.steps r) same_start ∙ zero_start-at net cut r in
-    let shot : IsShotBetween net cut (goal_of net.steps c.args.shots i) (goal_of net.steps c.args.shots (i + 1)) room.steps =
-    shot-between net cut (goal_of net.steps c.args.shots i) (goal_of net.steps c.args.shots (i + 1)) room.steps sound shows.lawful
-    (λ r there.
-    let between = came.between r (omega (arith, there, count)) in
-    (omega (arith, inv.3 r there, between.0), omega (arith, between.1, zero r, goal))) in
+    let shot : AreStepsBetween net cut (goal_of net.steps c.args.shots i) (goal_of net.steps c.args.shots (i + 1)) room.steps = record {
+      lawful = shows.lawful;
+      between = λ r there.
+          let between = came.between r (omega (arith, there, count)) in
+          (omega (arith, inv.3 r there, between.0), omega (arith, between.1, zero r, goal));
+    } in
     let watching : TellingOfWatchers = g.W.Observer.told_watching c.args.observer.now in
     let watched : TellingOfShots = g.W.Observer.told_watched c.args.observer.now in
     let run : CutRun = cut_run terms.setup.now in
