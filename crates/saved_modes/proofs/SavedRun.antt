@@ -52,8 +52,7 @@ small-numbers : (row : Row) → IsSmall row → HasNumbers row
 small-numbers row few = record { n = omega (arith, few.n); come = omega (arith, few.come); gone = omega (arith, few.gone); wait = omega (arith, few.wait) }
 
 module _ (net : Network) (request : Request) (input text : List ℕ) (sound : IsNetwork net) (in_range : IsInRange request) (reads : network_of input ≡ Ok net)
-  (short : length input ≤ most_bytes) (is : IsSavedRun net request input text) where
-
+    (short : length input ≤ most_bytes) (is : IsSavedRun net request input text) where
   abbrev content : Content
   content = run_at net is.cut is.steps input
 
