@@ -41,7 +41,7 @@ fn put_lines(alloc: Global, lines: &mut Vec<u8>, text: &str) -> Result<(), Alloc
 }
 
 // The words of a text, which spaces part.
-fn words_of(alloc: Global, text: &str) -> Result<Vec<String>, AllocError> {
+pub(crate) fn words_of(alloc: Global, text: &str) -> Result<Vec<String>, AllocError> {
     let mut words = Vec::new(alloc);
     for word in text.split(' ') {
         words.push(String::from_str(alloc, word)?)?;

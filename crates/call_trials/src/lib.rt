@@ -10,3 +10,5 @@ mod observer_tests;
 mod observers;
 #[cfg(test)]
 mod port_tests;
+#[cfg(test)]
+mod step_limit;

@@ -1,6 +1,10 @@
-use crate::calling::{CORRIDOR, CORRIDOR_REPORT, call_gives};
+use crate::calling::{CORRIDOR, CORRIDOR_REPORT, call_gives, lines, words_of};
 use crate::observers::{Glance, Meeting, Notes};
+use crate::step_limit::call_within;
+use call_ending::Status;
+use ctm_ports::SureSource;
 use std::alloc::Global;
+use std::panic::Expect;
 use std::process::Abort;
 use std::sync::atomic::Ordering;
 use std::thread::Threads;
@@ -209,4 +213,25 @@ fn a_file_s_regions_are_those_of_a_run_and_not_those_of_its_parts(rt: HostRuntim
             held,
         );
     }
+}
+
+// Looks whether a call runs the chain to its report, taking no region through more than so many steps.
+fn check_within<R: Abort + Threads + Sync>(rt: &R, alloc: Global, most: u64) {
+    let words = words_of(alloc, "run --regions 4 --workers 2").expect(rt, "memory");
+    let source = SureSource::new(lines(alloc, &[CHAIN]).expect(rt, "memory"));
+    let report = lines(alloc, &[CHAIN_REPORT]).expect(rt, "memory");
+    let ended = call_within(rt, alloc, &words, source, most);
+    assert_eq!(rt; ended.status, Status::Done);
+    assert_eq!(rt; ended.out.bytes(), report.as_slice());
+}
+
+#[test]
+fn a_run_up_to_its_limit_has_its_report(rt: HostRuntime) {
+    check_within(&rt, rt.alloc(), 4);
+}
+
+#[test]
+#[should_panic(expected = "a step past the limit")]
+fn a_run_past_its_limit_ends_the_process(rt: HostRuntime) {
+    check_within(&rt, rt.alloc(), 3);
 }
