@@ -10,7 +10,7 @@ import time
 
 import pytest
 from conftest import TOP
-from launched import JOBS, PATIENCE
+from launched import JOBS, PATIENCE, heed_signals
 
 
 def test_crates_are_proved_side_by_side_the_longest_chain_first(repository):
@@ -28,12 +28,13 @@ def test_crates_are_proved_side_by_side_the_longest_chain_first(repository):
     assert ("niced", "side", "1") in events
     assert order.index(("ended", "low")) < order.index(("began", "long"))
     assert "unused" not in dict(order).values()
-    first = err.splitlines()[0]
+    begun, first, *rest = err.splitlines()
+    assert begun.startswith("./ctm: the program isn't built of the sources that stand here; it is proved and built first")
     # Of 95 s: those of `low`, `long`, `top` and `ctm_program`, one behind the other, by 4 jobs each.
     assert "6 crates, of which 6 are left, takes about 2 min on 4 processors like those of docs/inside/MAP.md" in first
     assert "the first crates show how long it takes on these" in first
     assert "./ctm --try WORDS gives a result meanwhile, without a proof, in about a minute" in first
-    assert all(re.search(r"after \d+ min \d+ s; .* left$", line) for line in err.splitlines()[1:-1])
+    assert all(re.search(r"after \d+ min \d+ s; .* left$", line) for line in rest[:-1])
 
 
 def test_a_crate_that_is_proved_alone_gets_all_processors(repository):
@@ -63,8 +64,9 @@ def test_a_proof_that_memory_is_too_small_for_is_tried_with_one_job(repository):
     assert [jobs for kind, name, jobs in repository.events("began") if name == "long"] == [str(JOBS), "1"]
 
 
-@pytest.mark.parametrize("number", [signal.SIGINT, signal.SIGTERM, signal.SIGHUP])
-def test_an_interrupted_build_leaves_nothing_behind(repository, number):
+@pytest.mark.parametrize("number, why", [(signal.SIGINT, "interrupted"), (signal.SIGTERM, "ended from outside by SIGTERM"),
+                                         (signal.SIGHUP, "ended from outside by SIGHUP")])
+def test_a_build_that_is_ended_says_by_what_and_leaves_nothing_behind(repository, number, why):
     (repository.top / "crates/long/src/seconds").write_text("7777\n")
     process = repository.start("run")
     while not repository.log.exists() or "began long" not in repository.log.read_text():
@@ -72,12 +74,38 @@ def test_an_interrupted_build_leaves_nothing_behind(repository, number):
     process.send_signal(number)
     _, err = process.communicate(timeout=PATIENCE)
     assert process.returncode == 125
-    assert b"interrupted, so nothing was run" in err
+    assert err.decode().splitlines()[-1] == f"./ctm: {why}, so nothing was run"
     assert not any(repository.passing.iterdir())
     deadline = time.monotonic() + PATIENCE
     while subprocess.run(["pgrep", "-f", f"^sleep {7777 / JOBS:g}$"], stdout=subprocess.DEVNULL).returncode == 0:
         assert time.monotonic() < deadline
         time.sleep(0.05)
+
+
+def test_a_build_outlives_the_terminal_where_that_is_asked_for(repository):
+    """As under nohup, which has a closed terminal ignored."""
+    def outlive():
+        heed_signals()
+        signal.signal(signal.SIGHUP, signal.SIG_IGN)
+
+    repository.goes_on_until("long", "began side")
+    process = repository.start("run", preexec_fn=outlive, process_group=0)
+    while not repository.log.exists() or "began low" not in repository.log.read_text():
+        time.sleep(0.01)
+    os.killpg(process.pid, signal.SIGHUP)
+    _, err = process.communicate(timeout=PATIENCE)
+    assert process.returncode == 0 and b"so nothing was run" not in err
+
+
+def test_what_begins_is_said_before_the_sources_are_looked_at(repository):
+    """Which takes long on a machine that is busy; here as long as the test wants."""
+    stuck = repository.bin / "sha256sum"
+    stuck.write_text("#!/bin/bash\nexec sleep 1000\n")
+    stuck.chmod(0o755)
+    process = repository.start("run", process_group=0)
+    assert process.stderr.readline().startswith(b"./ctm: the program isn't built of the sources that stand here; it is proved and built")
+    os.killpg(process.pid, signal.SIGKILL)
+    process.communicate()
 
 
 def held_by_rt(repository, crate):
