@@ -14,10 +14,10 @@ import click
 
 from . import __version__
 from .commands.ending import PROGRAM, answer, need_streams, say
-from .commands.telling import tell
+from .commands.telling import note, tell
 from .files.unpacking import DEFAULT, MOST, OPTION
 from .problem import Interrupted
-from .program.calls import documents, found_program, keep_folders_from_root
+from .program.calls import NEWS, documents, found_program, keep_folders_from_root
 from .program.interrupt import INTERRUPTS, STATUS, heeded
 
 COMMANDS = {"new": "Write a study to begin with.", "examples": "Copy the examples into a folder.",
@@ -109,6 +109,7 @@ def main(words: Sequence[str] | None = None) -> NoReturn:
     """Runs a command on the words, and ends with status 2 and one line where they or a file have a fault."""
     need_streams()
     keep_folders_from_root()
+    NEWS.set(note)
     last_word = LastWord()
     with heeded(last_word):
         try:

@@ -10,11 +10,12 @@ import numpy
 import pandas
 import pytest
 
-from ctmtools import draw, read_study, run
+from ctmtools import Problem, build, draw, read_study, run
 from ctmtools.many_runs.kept_rows import KeptValues
 from ctmtools.many_runs.task import study
 from ctmtools.plans.candidates import candidate, judged
 from ctmtools.plots import draws
+from ctmtools.study.network_text import BuiltOnce
 from ctmtools.study.plan import Closure, RoadPart
 from ctmtools.uncertainty.incident import drawn, happened
 from ctmtools.uncertainty.drawn_runs import DrawnRuns, Wanted
@@ -147,6 +148,34 @@ def test_another_uncertainty_in_the_same_folder_is_drawn_anew(tool, program, tmp
         assert pandas.read_csv("s.draw/draws.csv").demand.min() >= float(least)
 
 
+@pytest.mark.parametrize("name", ["bottleneck", "grid", "arterial-ten"])
+@pytest.mark.parametrize("factor", ["0", "1", "1.0437"])
+def test_a_network_of_which_the_demand_alone_is_made_anew_is_the_one_that_is_built(name, factor):
+    base, other = (read_study(EXAMPLES / f"{name}.toml").scenario for _ in range(2))
+    for gate in other.gates.values():
+        for flow in gate.demand:
+            flow.flow *= Fraction(factor)
+    found, wanted = BuiltOnce(base).with_demand(other), build(other)
+    assert (found.text, found.units) == (wanted.text, wanted.units)
+    assert found.network.records == wanted.network.records and found.rounding.differing == wanted.rounding.differing
+
+
+def test_a_demand_that_no_network_can_have_is_refused_as_by_a_build():
+    base, other = (read_study(EXAMPLES / "bottleneck.toml").scenario for _ in range(2))
+    for flow in other.gates["on"].demand:
+        flow.flow *= 10**6
+    with pytest.raises(Problem, match="the built network has a fault: .*OutOfRange"):
+        BuiltOnce(base).with_demand(other)
+
+
+def test_draws_of_a_demand_build_its_network_once(program, tmp_path, monkeypatch):
+    built = []
+    monkeypatch.setattr("ctmtools.study.network_text.build", lambda study: built.append(study.title) or build(study))
+    monkeypatch.setattr("ctmtools.many_runs.task.settled_by_runs", None)
+    drawn_runs = DrawnRuns([written(tmp_path, GATE + UNIFORM)], Wanted(3, 1))
+    assert len(list(drawn_runs.run(jobs=1))) == 3 and not drawn_runs.failures and len(built) == 1
+
+
 def test_an_interrupt_loses_the_runs_under_way_alone(tool, program, tmp_path):
     path = written(tmp_path, GATE + UNIFORM)
     words = ["draw", path, "--runs", "9", "-j", "1"]
@@ -251,7 +280,7 @@ def test_a_file_of_its_own_stands_in_the_place_of_what_the_study_says(tool, prog
 
 
 @pytest.mark.parametrize("text, words, wanted", [
-    (GATE, [], r"s.toml: has no \[\[uncertain\]\] with a key or incidents, and no file is named by --with"),
+    (GATE, [], r"s.toml: has no \[\[uncertain\]\] with a key, incidents or arrivals, and no file is named by --with"),
     (GATE + UNIFORM.replace('"demand"', '"demand.sea"'), [], "s.toml: uncertain: demand.sea: the study has no gate sea"),
     (GATE + UNIFORM.replace('"demand"', '"roads.n.lanes"'), [], "s.toml: uncertain: roads.n.lanes: the study has no n there"),
     (GATE + UNIFORM.replace('"demand"', '"roads.m.lan"'), [], "s.toml: uncertain: roads.m.lan: the study says nothing there that a factor"),

@@ -94,6 +94,14 @@ CASES = {
     "sweep on processes": (["sweep", STREET, *OFFSETS, "-j", "2"], 8, r"stopped with \d+ of 12 runs left; the same call goes on"),
     "choose": (["choose", STREET, "--vary", "signals.offset=0:110:5"], 2, "stopped with 7 of 23 plans left; the same call goes on"),
     "optimise": (["optimise", EXAMPLES / "arterial-ten.toml", "--signals"], 3, "stopped after 32 runs; the same call goes on"),
+    "draw": (["draw", EXAMPLES / "uncertain.toml", "-j", "1"], 8, r"stopped with 9\d of 100 runs left; the same call goes on with them"),
+    "draw before its first run": (["draw", EXAMPLES / "uncertain.toml"], 1, "stopped; nothing is kept$"),
+    "sweep before its first run": (["sweep", STREET, *OFFSETS, "-j", "1"], 1, "stopped; nothing is kept$"),
+    "optimise before its first run": (["optimise", EXAMPLES / "arterial-ten.toml", "--signals"], 1, "stopped; nothing is kept$"),
+    "calibrate before its first run": (CALIBRATE, 1, "stopped; nothing is kept$"),
+    "choose before its first run": (["choose", STREET, "--vary", "signals.offset=0:110:5"], 1, "stopped; nothing is kept$"),
+    "assign": (["assign", EXAMPLES / "bypass.toml"], 3, "stopped; nothing is kept of 1 round$"),
+    "assign of several parts": (["assign", EXAMPLES / "bypass.toml", "--informed", "0,1", "-j", "1"], 3, "stopped; nothing is kept$"),
     "run of greens that follow traffic": (["run", "actuated.toml"], 12, "stopped; the same call goes on from the greens in actuated.actuated.json"),
     "meter": (["meter", EXAMPLES / "feedback.toml"], 12, "stopped; the same call goes on from the last interval"),
     "calibrate": (CALIBRATE, 6, r"stopped after \d+ runs; the same call goes on"),
@@ -214,7 +222,7 @@ def test_a_program_that_builds_has_time_to_end_what_it_began(tmp_path):
     path.write_text(f"""#!/bin/bash
 setsid bash -c 'exec -a {tmp_path}/stand-in-began sleep 1000' &
 began=$!
-trap 'kill $began; echo "./ctm: interrupted, so nothing was run" >&2; exit 125' TERM
+trap 'kill $began; echo "./ctm: ended from outside by SIGTERM, so nothing was run" >&2; exit 125' TERM
 echo './ctm: building' >&2
 sleep 2  # in which the line is handed on
 touch {tmp_path}/reached
@@ -223,6 +231,27 @@ wait
     path.chmod(0o755)
     status, err, _ = interrupted(tmp_path, ["lint", EXAMPLES / "event.csv"], str(path))
     assert (status, err) == (130, "./ctm: building\nctm-tools: interrupted\n") and not sleepers(tmp_path)
+
+
+BUILDING = """#!/bin/bash
+trap 'echo "./ctm: ended from outside by SIGTERM, so nothing was run" >&2; exit 125' TERM
+echo "./ctm: the program isn't built of the sources that stand here" >&2
+sleep 1  # in which the line is handed on
+touch {folder}/reached
+while true; do sleep 0.1; done
+"""
+
+
+def test_what_ends_a_build_from_outside_is_no_interrupt_and_what_began_is_said_at_once(tmp_path):
+    path = tmp_path / "stand-in"
+    path.write_text(BUILDING.format(folder=tmp_path))
+    path.chmod(0o755)
+    process = started(tmp_path, ["sweep", STREET, *OFFSETS], str(path), stdout=subprocess.PIPE, stderr=subprocess.PIPE)
+    assert process.stderr.readline() == "./ctm: the program isn't built of the sources that stand here\n"
+    wait_for(tmp_path / "reached", process)
+    process.send_signal(signal.SIGTERM)
+    _, err = process.communicate(timeout=600)
+    assert process.returncode == -signal.SIGTERM and "interrupted" not in err and not sleepers(tmp_path)
 
 
 def test_an_interrupt_that_a_library_takes_for_a_fault_of_the_file(tmp_path):

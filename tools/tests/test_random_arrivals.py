@@ -1,12 +1,14 @@
 """Arrivals at random: what is drawn, by its mean, and the delay of a side street and of a fixed green beside the manual's formulas."""
 
+import pandas
 import pytest
 
-from ctmtools import build, read_study
+from ctmtools import build, draw, read_study, run
+from ctmtools.approaches.by_approach import by_approach
 from ctmtools.network_file.network import network_of
-from ctmtools.runs.arrivals import at_random, lanes_giving_way
+from ctmtools.runs.arrivals import Draw, at_random, lanes_giving_way
 from ctmtools.runs.running import opened
-from ctmtools.uncertainty.seeds import approaches_of, seeded
+from ctmtools.uncertainty.seeds import parts_of, seeded
 from ctmtools.yielding.control_delay import at_signal, at_stop
 from ctmtools.yielding.gaps import harders
 
@@ -57,7 +59,7 @@ def demands(network, gate):
 
 
 def test_whole_vehicles_come_with_the_mean_of_the_demand():
-    drawn = [at_random(network_of(NETWORK), [], 1, number) for number in range(1, 21)]
+    drawn = [at_random(network_of(NETWORK), [], Draw(1, number)) for number in range(1, 21)]
     rows = [demands(network, "g") for network in drawn]
     assert all(count == int(count) > 0 and end <= 1800 for row in rows for _, end, count in row)
     # Where both overlap they add up: 900·0.15 + 900·0.3 = 405 vehicles come in the mean, 20·405 = 8,100 in all, with a deviation of 90.
@@ -67,13 +69,14 @@ def test_whole_vehicles_come_with_the_mean_of_the_demand():
 def test_a_draw_is_by_its_seed_its_number_and_the_names():
     network = network_of(NETWORK)
     other = network_of(NETWORK.replace(b"demand,h,0,3600,0.2\n", b""))
-    assert at_random(network, [], 1, 2).content == at_random(network, [], 1, 2).content
-    assert demands(at_random(network, [], 1, 2), "g") == demands(at_random(other, [], 1, 2), "g")
-    assert len({at_random(network, [], seed, number).content for seed, number in ((1, 1), (1, 2), (2, 1))}) == 3
+    draw = Draw(1, 2)
+    assert at_random(network, [], draw).content == at_random(network, [], draw).content
+    assert demands(at_random(network, [], draw), "g") == demands(at_random(other, [], draw), "g")
+    assert len({at_random(network, [], one).content for one in (Draw(1, 1), draw, Draw(2, 1))}) == 3
 
 
 def test_gaps_pass_whole_vehicles_as_many_as_the_limit_in_the_mean():
-    drawn = at_random(network_of(NETWORK), [["a"]], 1, 1)
+    drawn = at_random(network_of(NETWORK), [["a"]], Draw(1, 1))
     assert "a" not in drawn.limits_of
     closed = sum(end - begin for _, (cell, begin, end, *_) in drawn.numbered("speed") if cell == "a")
     # 0.1 in each of 3,600 steps are 360 vehicles, each of which takes two steps of 0.5; the deviation is 19 vehicles, 38 steps.
@@ -82,7 +85,7 @@ def test_gaps_pass_whole_vehicles_as_many_as_the_limit_in_the_mean():
 
 def test_the_movements_of_a_lane_have_their_gaps_together():
     text = NETWORK.replace(b"limit,a,0,3600,0.1\n", b"limit,a,0,3600,0.1\nlimit,b,0,3600,0.3\n")
-    drawn = at_random(network_of(text), [["a", "b"]], 1, 1)
+    drawn = at_random(network_of(text), [["a", "b"]], Draw(1, 1))
     spans = {cell: [(begin, end) for _, (name, begin, end, *_) in drawn.numbered("speed") if name == cell] for cell in "ab"}
     assert spans["a"] == spans["b"]
     # Of a lane's 0.5 a fourth is of the one.
@@ -100,13 +103,25 @@ def test_delay_below_capacity_is_that_of_the_manual(tmp_path, recording_program,
     assert frame[frame.road == "side"].delay_each.mean() == pytest.approx(by_hand, rel=0.2)
 
 
-def test_an_approach_has_its_gate_its_pockets_and_its_movements(tmp_path):
+def test_an_approach_has_its_gate_its_pockets_and_its_movements_once(tmp_path, recording_program):
     pocket = 'pockets = [{ movements = [["side", "away"]], length = "60 m" }]\n'
-    (tmp_path / "study.toml").write_text(STUDY.replace("[[1, 0], [0, 1]]", "[[1, 1], [0, 1]]") + pocket)
-    study = read_study(tmp_path / "study.toml").scenario
-    found = approaches_of(study)
-    assert sorted(name for name, approach in found.items() if approach == "side") == [
-        "gate in-side", "side", "side-along", "side-away", "side-lanes1", "side-pocket1"]
+    text = STUDY.replace("[[1, 0], [0, 1]]", "[[1, 1], [0, 1]]").replace("duration = 3600", "duration = 600").replace("150\n", "1200\n")
+    (tmp_path / "study.toml").write_text(text + LIGHT + pocket)
+    report = run(tmp_path / "study.toml")
+    found = parts_of(report).set_index("road")
+    # All who wait do so before the stop lines, those who find no room on the road in its gate.
+    assert list(found.index) == ["side", "main", "away", "along"] and found.delay[["away", "along"]].max() == 0
+    assert found.delay.sum() == pytest.approx(report.delay_vehicle_hours) and found.delay.side > found.delay.main > 0
+
+
+def test_what_the_manual_adds_for_random_arrivals_is_left_out_where_they_are_drawn(tmp_path, recording_program):
+    (tmp_path / "study.toml").write_text(STUDY.replace("duration = 3600", "duration = 900") + LIGHT)
+    report = run(tmp_path / "study.toml")
+    even, drawn = by_approach(report).set_index("approach"), by_approach(report, drawn=True).set_index("approach")
+    assert even.delay_random.side > 1 and (drawn.delay_random == 0).all()
+    assert (drawn.delay_each == even.delay_even).all() and (drawn.longest_queue <= even.longest_queue).all()
+    found = parts_of(report).set_index("road").delay_each.side, drawn.delay_each.side
+    assert found == pytest.approx((even.delay_even.side,) * 2)
 
 
 def test_who_gives_way_at_a_signal_has_no_gaps_drawn(tmp_path):
@@ -122,3 +137,28 @@ def test_run_tells_means_and_intervals(tool, tmp_path, recording_program):
     assert status == 0 and "Arrivals at random, 2 draws: " in out and "  side " in out
     status, _, told = tool(*called, "--every", "0")
     assert status == 2 and "--seeds: goes with records" in told
+
+
+ARRIVALS = '[[uncertain]]\narrivals = "random"\n'
+
+
+def test_draws_have_the_arrivals_and_gaps_of_a_run_with_seeds(tmp_path, recording_program):
+    (tmp_path / "study.toml").write_text(STUDY.replace("duration = 3600", "duration = 900") + STOP + ARRIVALS)
+    seeds, found = seeded(opened(tmp_path / "study.toml"), 2), draw(tmp_path / "study.toml", runs=2, jobs=1)
+    assert found.delays("study").tolist() == pytest.approx(seeds.attrs["delays"])
+    # As it stands they come evenly, and nobody waits; and at free flow gaps hold nobody up.
+    assert found.as_it_stands("study", "delay") == pytest.approx(0, abs=0.01) and found.delays("study").min() > 0.05
+    assert set(found.free["study"].values()) == {10 * 2 / 60, 2 / 60, 13 * 2 / 60}
+
+
+def test_arrivals_are_drawn_beside_what_varies_the_same_in_each_plan(tool, tmp_path, recording_program):
+    text = STUDY.replace("duration = 3600", "duration = 600") + LIGHT + ARRIVALS
+    (tmp_path / "a.toml").write_text(text)
+    (tmp_path / "b.toml").write_text(text)
+    status, out, err = tool("draw", "a.toml", "b.toml", "--runs", "2", "-j", "1")
+    assert status == 0 and ": 2 draws, seed 1, arrivals at random\n" in out, err
+    rows = pandas.read_csv("a.draw/draws.csv").set_index(["plan", "draw"]).delay_vehicle_hours
+    assert rows["a"].tolist() == rows["b"].tolist() and rows.nunique() == 2
+    (tmp_path / "a.toml").write_text(text + '[[uncertain]]\nkey = "demand"\nfactor = "uniform"\nleast = 0.1\nmost = 0.2\n')
+    few = draw("a.toml", runs=1, jobs=1).rows
+    assert 0.1 < few.demand[0] < 0.2 and few.left_vehicles[0] == int(few.left_vehicles[0]) < 40

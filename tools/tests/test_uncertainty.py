@@ -110,7 +110,9 @@ NORMAL = 'factor = "normal"\nmean = 1\ndeviation = 0.1'
 
 
 @pytest.mark.parametrize("entry, wanted", [
-    (f'{NORMAL}', r"uncertain\[1\]: say one of key, keys and incidents"),
+    (f'{NORMAL}', r"uncertain\[1\]: say one of key, keys, incidents and arrivals"),
+    ('arrivals = "even"', r'uncertain\[1\].arrivals: expected random, found "even"; without it they come evenly'),
+    ('arrivals = "random"\nseed = 1', r"uncertain\[1\].seed"),
     ('key = "demand"', r"uncertain\[1\].factor: say either factor or value, with its distribution"),
     ('key = "demand"\nvalue = "normal"\nmean = 1\ndeviation = 0', r"uncertain\[1\].value: demand is varied by a factor"),
     ('key = "demand"\nfactor = "norml"', r'uncertain\[1\].factor: expected normal, lognormal, .* or given, found "norml"'),
@@ -226,7 +228,7 @@ def test_too_many_incidents_are_told(tmp_path, report):
 def test_a_draw_in_which_no_incident_happens_is_run_once(happening, same, wanted, monkeypatch, tmp_path):
     report, runs = reported(corridor(tmp_path)), []
 
-    def ran(made, one):
+    def ran(made, one, _):
         runs.append(list(made.closures))
         return SimpleNamespace(report=report, checksum="", notes="")
 

@@ -60,19 +60,21 @@ class Row:
                 level(even + random, self.control, self.ratio), self.even + self.random, self.queue, self.longest, self.lanes, self.over)
 
 
-def by_approach(report: Report, every: float | None = None, by: str = "approach", value_of_time: float | None = None) -> pandas.DataFrame:
+def by_approach(report: Report, every: float | None = None, by: str = "approach", value_of_time: float | None = None,
+                drawn: bool = False) -> pandas.DataFrame:
     """A row for each span of time and each approach, or by "movement" for each movement of it.
 
     `demand` comes and `capacity` may pass, in vehicles/h; `ratio` is what is asked of what may pass, of an approach that of its
     busiest lanes. Control delay, `delay_each` in s for each vehicle that left, is `delay_even`, that of the run, in which vehicles
     come evenly, and `delay_random`, what the manual adds where they come at random; `delay` is both in vehicle-hours. `queue` is
     the mean and `longest_queue` the greatest in m, on so many `lanes`. `over_pocket` are the most vehicles at once that a pocket
-    can't hold. With a value of time, in money an hour, `cost` is what the delay costs.
+    can't hold. With a value of time, in money an hour, `cost` is what the delay costs. Where arrivals were `drawn` the run's delay and
+    queues have what comes of them, so nothing of the manual is added.
     """
     if not report.units.known:
         raise Problem(f"{report.name}: the units aren't known, so approaches have no delay in s")
     bounds = bounds_of(report, every)
-    found = [(name, list(rows)) for name, rows in _all(report, bounds, by)]
+    found = [(name, list(rows)) for name, rows in _all(report, bounds, by, drawn)]
     key = list(("approach", "movement")[:1 + (by == "movement")])
     rows = [(bounds[span], *name, *own[span].values()) for span in range(len(bounds) - 1) for name, own in found]
     frame = pandas.DataFrame(rows, columns=["step", *key, *MEASURES]).round(DIGITS)
@@ -85,10 +87,10 @@ def by_approach(report: Report, every: float | None = None, by: str = "approach"
     return frame
 
 
-def _all(report: Report, bounds: Sequence[int], by: str) -> Iterator[tuple[tuple[str, ...], Iterator[Row]]]:
+def _all(report: Report, bounds: Sequence[int], by: str, drawn: bool) -> Iterator[tuple[tuple[str, ...], Iterator[Row]]]:
     """The name of each approach or movement, and its rows, one for each span."""
     for approach in report.units.approaches:
-        own = Service(Stages(report, approach))
+        own = Service(Stages(report, approach), drawn)
         spans = [own.rows(begin, end) for begin, end in zip(bounds, bounds[1:])]
         if by == "approach":
             yield (approach.name,), iter([together(rows) for rows in spans])
@@ -98,10 +100,10 @@ def _all(report: Report, bounds: Sequence[int], by: str) -> Iterator[tuple[tuple
 
 
 class Service:
-    """The measures of an approach's movements, span by span."""
+    """The measures of an approach's movements, span by span; of a run of `drawn` arrivals without what the manual adds."""
 
-    def __init__(self, stages: Stages) -> None:
-        self.stages, self.report = stages, stages.report
+    def __init__(self, stages: Stages, drawn: bool = False) -> None:
+        self.stages, self.report, self.drawn = stages, stages.report, drawn
         self.passing = [Passing(self.report, one, stages.last(one)) for one in stages.movements]
 
     def rows(self, begin: int, end: int) -> list[Row]:
@@ -113,7 +115,7 @@ class Service:
         hours = (end - begin) / hour_of(report)
         demand = stages.come(rows) / hours * parts
         waits = [stages.waits_of(place, parts)[rows] for place in range(len(parts))]
-        random = [one.lost(begin, end) for one in self.passing]
+        random = [0.0 if self.drawn else one.lost(begin, end) for one in self.passing]
         return [self._row(place, (begin, end), rows, _Span(hours, demand, waits, random)) for place in range(len(parts))]
 
     def _row(self, place: int, steps: tuple[int, int], rows: slice, span: _Span) -> Row:
@@ -129,7 +131,8 @@ class Service:
         metre = self.stages.jam * movement.lanes
         queued = sum(span.waits[k] for k in beside) / report.lasting[rows, 0]
         mean = sum(float(report.units.hours(span.waits[k].sum())) + span.random[k] for k in beside) / span.hours
-        most = max(float(queued.max(initial=0)), passing.long_queue(*steps) * movement.lanes, mean)
+        long = 0.0 if self.drawn else passing.long_queue(*steps) * movement.lanes
+        most = max(float(queued.max(initial=0)), long, mean)
         over = numpy.nan if movement.room is None else max(0.0, most - movement.room)
         return Row(float(span.demand[place]), float(self.stages.passed([self.stages.last(movement)])[rows].sum()), may, float(ratio),
                    float(report.units.hours(span.waits[place].sum())), span.random[place], mean / metre, most / metre,

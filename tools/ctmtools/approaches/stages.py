@@ -30,6 +30,11 @@ class Stages:
         self.shared = shared_cells(self.report, self.approach)
         self.movements = self.approach.movements
 
+    @property
+    def cells(self) -> list[str]:
+        """All cells of the approach, each once."""
+        return list(dict.fromkeys([*self.shared, *(cell for one in self.movements for cell in one.cells)]))
+
     def waits(self, cells: Sequence[str]) -> Numbers:
         """The vehicle-steps that are waited in some cells."""
         places = self.report.places(cells)
@@ -66,8 +71,7 @@ class Stages:
 
     def come(self, rows: slice) -> float:
         """The vehicles that come to the approach in some rows: those that leave it, and what is in it more at the end."""
-        cells = list(dict.fromkeys([*self.shared, *(cell for one in self.movements for cell in one.cells)]))
-        held = self.report.records.vehicles[:, self.report.places(cells)].sum(axis=1) / PARTS
+        held = self.report.records.vehicles[:, self.report.places(self.cells)].sum(axis=1) / PARTS
         left = sum(float(self.passed([self.last(one)])[rows].sum()) for one in self.movements)
         return max(0.0, left + float(held[rows.stop] - held[rows.start]))
 

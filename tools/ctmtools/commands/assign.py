@@ -30,6 +30,7 @@ from ..study.trips import part_of_drivers
 from ..texts.cells import frame_text
 from ..texts.quantities import exact
 from ..texts.text_table import table
+from .ending import NOTHING, stopping
 from .options import ALLOW_FILES, Finite
 from .output import FORCE
 from .progress import bar
@@ -76,19 +77,24 @@ def command(source: str, earlier: str | None, informed: str | None, after: str |
     tasks = [AssignTask(values, source, str(program_path()), rows, part, step_of(after, study), gap, iterations)
              for part in _parts(informed)]
     if len(tasks) > 1:
-        _tell_table(tasks, _done(tasks, jobs, address), output)
+        with stopping():
+            _tell_table(tasks, _done(tasks, jobs, address), output)
         return
     if address is not None:
         raise click.UsageError("--dask: a cluster makes several assignments, as for --informed 0,0.3,1; this is one")
     places = places_of(source, output)
     places.guard(Path(source), Path(earlier) if earlier else None)
-    assignment = begun(tasks[0], workers)
-    for line in told_of_study(assignment.shared.built):
-        tell(line)
-    rounds = _rounds(assignment, gap, iterations)
-    best = assignment.best
-    made = written(assignment, best, values, places)
-    drawn(rounds, made.rows, made.report, assignment.departures.width, places)
+    rounds: list[Round] = []
+    with stopping() as kept:
+        kept.says = lambda: f"{NOTHING} of {len(rounds)} round{'s'[:len(rounds) != 1]}"
+        assignment = begun(tasks[0], workers)
+        for line in told_of_study(assignment.shared.built):
+            tell(line)
+        _go(assignment, gap, iterations, rounds)
+        best = assignment.best
+        kept.says = lambda: f"stopped as {places.study} was written; the same call makes it and what stands beside it anew"
+        made = written(assignment, best, values, places)
+        drawn(rounds, made.rows, made.report, assignment.departures.width, places)
     _tell(assignment, [*(rounds[:-1] if best is rounds[-1] else rounds), made.last], gap, made.rows, made.passing)
     for line in settled_lines(assignment.study, best, made.last):
         tell(line)
@@ -111,9 +117,8 @@ def _parts(text: str | None) -> list[float | None]:
     return found
 
 
-def _rounds(assignment: Assignment, gap: float, iterations: int) -> list[Round]:
-    """Goes from round to round, with a bar on a terminal, and tells what each came to."""
-    rounds: list[Round] = []
+def _go(assignment: Assignment, gap: float, iterations: int, rounds: list[Round]) -> None:
+    """Goes from round to round, each of which is added, with a bar on a terminal, and tells what each came to."""
     with bar(iterations, "rounds at most") as shown:
         for each in assignment.rounds(gap, iterations):
             rounds.append(each)
@@ -122,7 +127,6 @@ def _rounds(assignment: Assignment, gap: float, iterations: int) -> list[Round]:
     lines = [(f"{each.number}", f"{each.gap.relative:.5f}", number_text(each.delay), f"{each.changed:,.1f}", f"{each.moved:.2%}")
              for each in rounds]
     tell("", *table([heads, *lines], right=range(5)))
-    return rounds
 
 
 def _tell(assignment: Assignment, rounds: Sequence[Round], gap: float, ways: Sequence[Any], passing: Sequence[str]) -> None:

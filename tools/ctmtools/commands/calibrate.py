@@ -11,11 +11,12 @@ from ..calibration.fitting import FILE, Calibration, by_place, fitted, most_runs
 from ..calibration.observed import read_observed
 from ..detectors.options import StationOptions, wanted_by
 from ..files.written_over import guard_output
-from ..problem import Interrupted, Problem
+from ..problem import Problem
 from ..report.summary import number_text
 from ..study.reading import read_scenario
 from ..texts.text_table import table
 from .detector_options import detector_options
+from .ending import after, stopping
 from .options import ALLOW_FILES
 from .output import FORCE, OUTPUT_FILE
 from .progress import bar
@@ -71,19 +72,18 @@ def command(study: str, observed: tuple[str, ...], places: tuple[str, ...], vari
 
     picture = guard_output(picture_file(output or Path(study).stem + "-calibration.png"))
     ranges = [range_of(text) for text in varied]
-    seen = read_observed(observed, wanted_by(**terms), _places(places), read_scenario(study))
-    if seen.lines:
-        tell(*seen.lines, "")
-    folder = Path(Path(study).stem + ".calibrate")
-    begun = Calibration(study, seen, ranges, jobs, address, folder)
-    if begun.earlier:
-        tell(f"{begun.earlier} runs stand in {folder / FILE} already", "")
-    try:
+    with stopping() as kept:
+        seen = read_observed(observed, wanted_by(**terms), _places(places), read_scenario(study))
+        if seen.lines:
+            tell(*seen.lines, "")
+        folder = Path(Path(study).stem + ".calibrate")
+        begun = Calibration(study, seen, ranges, jobs, address, folder)
+        kept.says = lambda: after(begun.runs, begun.earlier)
+        if begun.earlier:
+            tell(f"{begun.earlier} runs stand in {folder / FILE} already", "")
         with bar(most_runs(runs, len(ranges)), "runs at most") as done:
             begun.news = lambda count, values, off: done(1, f"distance {off:.4f} with {_values(values)}")
             found = fitted(begun, runs, first, starts)
-    except KeyboardInterrupt:
-        raise Interrupted(f"stopped after {begun.runs} runs; the same call goes on with what is missing") from None
     for key, value in found.values.items():
         low, high = found.as_well[key]
         tell(f"{key} = {value:g}" + (f"  # {low:g} to {high:g} do as well" if low < high else ""))

@@ -11,11 +11,12 @@ from ..files.writing import write
 from ..many_runs.task import study
 from ..many_runs.variations import shown, variation
 from ..plans.choosing import Choice
-from ..problem import Interrupted, one_line
+from ..problem import one_line
 from ..report.summary import number_text
 from ..study.messages import warned_before_runs
 from ..texts.cells import frame_text
 from ..texts.text_table import table
+from .ending import left, stopping
 from .options import ALLOW_FILES, ROWS, VARIED
 from .output import FORCE, OUTPUT_FILE
 from .progress import bar
@@ -51,20 +52,18 @@ def command(source: str, varied: tuple[str, ...], output: str | None, rows: int)
 
     Of equal delays the first combination is the first.
     """
-    choice = Choice(source, [variation(text) for text in varied], Path(Path(source).stem + ".choose"))
-    first = next(iter(choice.candidates))
-    for line in warned_before_runs(study(choice.tasks[first])):
-        tell(line)
-    count = len(choice.candidates) - choice.earlier
-    if choice.earlier:
-        tell(f"{choice.earlier} of {len(choice.candidates)} plans stand in {choice.kept.path} already")
-    try:
+    with stopping() as kept:
+        choice = Choice(source, [variation(text) for text in varied], Path(Path(source).stem + ".choose"))
+        kept.says = lambda: left(len(choice.candidates) - len(choice.delays), len(choice.candidates), "plans")
+        first = next(iter(choice.candidates))
+        for line in warned_before_runs(study(choice.tasks[first])):
+            tell(line)
+        count = len(choice.candidates) - choice.earlier
+        if choice.earlier:
+            tell(f"{choice.earlier} of {len(choice.candidates)} plans stand in {choice.kept.path} already")
         with bar(count, f"{count} plans") as done:
             for judged in choice.run():
                 done(judged)
-    except KeyboardInterrupt:
-        left = len(choice.candidates) - len(choice.delays)
-        raise Interrupted(f"stopped with {left} of {len(choice.candidates)} plans left; the same call goes on with them") from None
     frame = choice.results().rows
     _tell(choice, frame, rows)
     if output:

@@ -8,7 +8,7 @@ from pathlib import Path
 import click
 
 from ..files.writing import write
-from ..problem import Interrupted, Problem
+from ..problem import Problem
 from ..study.times import Times
 from ..texts.cells import frame_text
 from ..texts.text_table import table
@@ -17,6 +17,7 @@ from ..uncertainty.messages import HEADS, compared_lines, plan_lines, spread_row
 from ..uncertainty.reliability import within
 from ..uncertainty.results import Draws, results_of, write_results
 from ..uncertainty.task import Asked
+from .ending import left, stopping
 from .options import ALLOW_FILES, CLUSTER, EVERY, JOBS
 from .output import FORCE, guard_folder_of
 from .progress import bar
@@ -35,6 +36,8 @@ What is uncertain stands in the study, or by itself in the file of --with:
   factor = "normal"        # or value; or lognormal, uniform, triangular, given
   mean = 1
   deviation = 0.1
+  [[uncertain]]
+  arrivals = "random"      # as in run --seeds
 tools/docs/uncertainty.md has the rest: values drawn together, and incidents.
 
 A draw depends on the seed, its number and the keys alone: it is the same for each plan and by any number of workers.
@@ -72,28 +75,26 @@ def command(sources: tuple[str, ...], runs: int, seed: int, given: str | None, r
     folder = Path(output or Path(sources[0]).stem + ".draw")
     guard_folder_of(folder, "summary.csv")
     wanted = Wanted(runs, seed, None if given is None else Path(given), Asked(routes, places), every, within(narrow) if narrow else None)
-    drawn_runs = DrawnRuns(sources, wanted, folder)
-    ends = {time: float(Times(drawn_runs.plans[0].study).after_start(time, "--queue-after")) for time in times}
-    done = runs * len(drawn_runs.plans) - drawn_runs.missing
-    if done:
-        tell(f"{done} of {runs * len(drawn_runs.plans)} runs stand in {folder / 'runs.csv'} already")
-    for line in drawn_runs.warnings():
-        tell(line)
-    _do(drawn_runs, jobs, address)
-    _tell(results_of(drawn_runs, ends), folder, drawn_runs.is_narrow)
+    with stopping() as kept:
+        drawn_runs = DrawnRuns(sources, wanted, folder)
+        asked = runs * len(drawn_runs.plans)
+        kept.says = lambda: left(drawn_runs.missing, asked, "runs")
+        ends = {time: float(Times(drawn_runs.plans[0].study).after_start(time, "--queue-after")) for time in times}
+        if drawn_runs.missing < asked:
+            tell(f"{asked - drawn_runs.missing} of {asked} runs stand in {folder / 'runs.csv'} already")
+        for line in drawn_runs.warnings():
+            tell(line)
+        _do(drawn_runs, jobs, address)
+        _tell(results_of(drawn_runs, ends), folder, drawn_runs.is_narrow)
 
 
 def _do(drawn_runs: DrawnRuns, jobs: int | None, address: str | None) -> None:
     """Runs the plans as they stand and then what is missing, and shows how much is left."""
-    try:
-        drawn_runs.as_it_stands()
-        missing = drawn_runs.missing
-        with bar(missing, f"{missing} runs") as done:
-            for _ in drawn_runs.run(jobs, address):
-                done()
-    except KeyboardInterrupt:
-        asked = drawn_runs.runs * len(drawn_runs.plans)
-        raise Interrupted(f"stopped with {drawn_runs.missing} of {asked} runs left; the same call goes on with them") from None
+    drawn_runs.as_it_stands()
+    missing = drawn_runs.missing
+    with bar(missing, f"{missing} runs") as done:
+        for _ in drawn_runs.run(jobs, address):
+            done()
 
 
 def _tell(results: Draws, folder: Path, is_narrow: bool) -> None:
@@ -119,7 +120,8 @@ def _lines(results: Draws, is_narrow: bool) -> Iterator[str]:
     """What the draws tell, as lines."""
     stopped = f", where the interval was narrow enough; {results.asked_for} were asked for" \
         if results.count < results.asked_for else ""
-    yield f"{results.title}: {results.count} draw{'s'[:results.count != 1]}, seed {results.seed}{stopped}"
+    random = ", arrivals at random" * results.arrivals
+    yield f"{results.title}: {results.count} draw{'s'[:results.count != 1]}, seed {results.seed}{random}{stopped}"
     if not is_narrow:
         yield "The interval isn't as narrow as was asked for; more --runs go on from here"
     for plan in results.plans:

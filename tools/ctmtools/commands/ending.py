@@ -5,18 +5,20 @@ from __future__ import annotations
 import io
 import os
 import sys
-from contextlib import suppress
+from collections.abc import Callable, Iterator
+from contextlib import contextmanager, suppress
 from pathlib import Path
 from typing import NoReturn, TextIO
 
 import click
 
-from ..problem import Problem, one_line, reason
+from ..problem import Interrupted, Problem, one_line, reason
 from ..program.interrupt import STATUS
 
 PROGRAM = "ctm-tools"
 TRACEBACK = "CTM_TRACEBACK"  # the variable with which a fault of the tools is told by its traceback too
 BAD_INPUT, FAILED = 2, 1
+NOTHING = "stopped; nothing is kept"  # where Ctrl-C ends a long command of which nothing is
 HERE = Path(__file__).resolve().parents[1]
 PACKAGES = {"click": "python3-click", "pandas": "python3-pandas", "numpy": "python3-numpy", "tabulate": "python3-tabulate",
             "matplotlib": "python3-matplotlib", "networkx": "python3-networkx", "distributed": "python3-distributed",
@@ -105,3 +107,30 @@ def _leave(stream: TextIO) -> None:
     """Has what is written to a stream go nowhere."""
     with suppress(OSError, ValueError):
         os.dup2(os.open(os.devnull, os.O_WRONLY), stream.fileno())
+
+
+class Kept:
+    """What is kept of a command so far, in a line; at first nothing is."""
+
+    def __init__(self) -> None:
+        self.says: Callable[[], str] = lambda: NOTHING
+
+
+@contextmanager
+def stopping() -> Iterator[Kept]:
+    """Has an interrupt end the block with what is kept then."""
+    kept = Kept()
+    try:
+        yield kept
+    except KeyboardInterrupt:
+        raise Interrupted(kept.says()) from None
+
+
+def left(missing: int, asked: int, what: str) -> str:
+    """The line of a command of so many runs, or whatever they are, of which some are missing."""
+    return NOTHING if missing == asked else f"stopped with {missing} of {asked} {what} left; the same call goes on with them"
+
+
+def after(runs: int, earlier: int) -> str:
+    """The line of a search after so many runs in this call, and in earlier ones."""
+    return f"stopped after {runs} runs; the same call goes on with what is missing" if runs or earlier else NOTHING

@@ -12,13 +12,14 @@ from ..many_runs.task import Task
 from ..many_runs.workers import apart
 from ..plans.searching import BEST, Search, best_study
 from ..plans.timing import Point
-from ..problem import Interrupted, Problem
+from ..problem import Problem
 from ..report.comparing import LEAST_WHOLE
 from ..report.summary import kilometre, number_text
 from ..study.reading import read_values
 from ..sweeps.sweeping import measure
 from ..texts.quantities import duration, exact
 from ..texts.text_table import table
+from .ending import after, stopping
 from .options import ALLOW_FILES
 from .output import FORCE, guard_folder_of
 from .progress import bar
@@ -54,17 +55,16 @@ def command(source: str, signals: bool, generations: int, population: int, seed:
     """Search for the timing of a study's signals with the least delay, and write the study with it."""
     folder = Path(output or Path(source).stem + ".optimise")
     guard_folder_of(folder, BEST)
-    search = Search(source, folder, _least(least_green))
-    if search.earlier:
-        tell(f"{search.earlier} plans stand in {search.tried.path} already")
-    try:
+    with stopping() as kept:
+        search = Search(source, folder, _least(least_green))
+        kept.says = lambda: after(search.runs, search.earlier)
+        if search.earlier:
+            tell(f"{search.earlier} plans stand in {search.tried.path} already")
         with bar(generations, f"{generations} generations") as done:
             best = search.run(generations, population, seed, lambda generation, runs, hours: done(
                 1, f"{runs} runs, least delay {number_text(hours)} vehicle-hours"))
-    except KeyboardInterrupt:
-        raise Interrupted(f"stopped after {search.runs} runs; the same call goes on with what is missing") from None
-    best_study(search, best, folder)
-    _tell(search, best, source, folder / BEST)
+        best_study(search, best, folder)
+        _tell(search, best, source, folder / BEST)
 
 
 def _least(text: str) -> Fraction:

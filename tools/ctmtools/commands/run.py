@@ -106,7 +106,7 @@ def _drawn(prepared: Prepared, seeds: int, report: Report) -> list[str]:
 
     with bar(seeds, "draws of arrivals") as done:
         frame = seeded(prepared, seeds, done=done)
-    return list(seed_lines(frame, report, prepared.settled.study if prepared.settled else None))
+    return list(seed_lines(frame, report))
 
 
 def _in_stretches(target: Path, prepared: Prepared, stretch: int, begun: Moment | None, workers: int | None) -> Report:

@@ -10,11 +10,12 @@ import click
 
 from ..files.writing import write
 from ..many_runs.variations import Variation, shown, variation
-from ..problem import Interrupted, Problem
+from ..problem import Problem
 from ..report.summary import kilometre, number_text
 from ..sweeps.sweeping import Sweep
 from ..texts.cells import frame_text
 from ..texts.text_table import table
+from .ending import left, stopping
 from .options import ALLOW_FILES, CLUSTER, EVERY, JOBS, ROWS, VARIED
 from .output import FORCE, guard_folder_of
 from .progress import bar
@@ -64,14 +65,16 @@ def command(source: str, varied: tuple[str, ...], jobs: int | None, address: str
     drawn = _drawn(over, variations)
     folder = Path(output or Path(source).stem + ".sweep")
     guard_folder_of(folder, "table.csv", "plot.png")
-    sweep = Sweep(source, variations, every, folder)
-    done = len(sweep.tasks) - len(sweep.missing)
-    if done:
-        tell(f"{done} of {len(sweep.tasks)} runs stand in {sweep.rows.path} already")
-    for line in sweep.warnings():
-        tell(line)
-    _do(sweep, jobs, address)
-    _tell(sweep, rows, folder, drawn)
+    with stopping() as kept:
+        sweep = Sweep(source, variations, every, folder)
+        kept.says = lambda: left(len(sweep.missing), len(sweep.tasks), "runs")
+        done = len(sweep.tasks) - len(sweep.missing)
+        if done:
+            tell(f"{done} of {len(sweep.tasks)} runs stand in {sweep.rows.path} already")
+        for line in sweep.warnings():
+            tell(line)
+        _do(sweep, jobs, address)
+        _tell(sweep, rows, folder, drawn)
 
 
 def _drawn(over: Sequence[str], variations: Sequence[Variation]) -> list[str]:
@@ -92,13 +95,9 @@ def _do(sweep: Sweep, jobs: int | None, address: str | None) -> None:
         return
     count = sweep.side_by_side(jobs)
     where = f"at {address}" if address else f"on {count} process{'es'[:2 * (count > 1)]}"
-    try:
-        with bar(missing, f"{missing} runs {where}") as done:
-            for _ in sweep.run(jobs, address):
-                done()
-    except KeyboardInterrupt:
-        raise Interrupted(f"stopped with {len(sweep.missing)} of {len(sweep.tasks)} runs left; the same call goes on with "
-                          "them") from None
+    with bar(missing, f"{missing} runs {where}") as done:
+        for _ in sweep.run(jobs, address):
+            done()
 
 
 def _tell(sweep: Sweep, rows: int, folder: Path, drawn: Sequence[str]) -> None:

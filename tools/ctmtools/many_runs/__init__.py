@@ -1,2 +1,2 @@
-# Imports files, network_file, program, report, runs, study, texts
+# Imports files, network_file, program, report, runs, study, texts, yielding
 """Many runs of a study: what is varied, who makes them, the file of kept rows, and the results."""

@@ -16,6 +16,7 @@ from pathlib import Path
 from typing import TYPE_CHECKING, Any
 
 from ..problem import Problem, one_line
+from ..program.calls import NEWS
 from ..program.interrupt import INTERRUPTS, as_they_end, check, end_group, later, leave_to_the_first
 from ..runs.running import processors
 from ..study.folder import Allowing, allowed_folders
@@ -83,6 +84,7 @@ class Given:
     def begin(cls, work: Work, tasks: Sequence[Any]) -> None:
         """Begins a process that has these tasks."""
         leave_to_the_first()
+        NEWS.set(None)  # what a build says is said once
         gc.freeze()  # what the first process has is looked through no more
         cls.work, cls.tasks = staticmethod(work), tasks
 

@@ -5,6 +5,7 @@ from __future__ import annotations
 import os
 from collections.abc import Callable, Sequence
 from contextlib import suppress
+from contextvars import ContextVar
 from dataclasses import dataclass
 from functools import lru_cache, partial
 from pathlib import Path
@@ -21,6 +22,7 @@ OF_THE_INPUT = (3, 4, 8, 9)  # statuses by which the program refuses its input, 
 BUILD_NEWS = b"./ctm: "
 
 News = Callable[[str], object]  # takes the lines that ./ctm says while it builds
+NEWS: ContextVar[News | None] = ContextVar("news", default=None)  # who takes them where a call names nobody
 
 
 @dataclass(frozen=True)
@@ -124,7 +126,7 @@ def ask(words: Sequence[str], content: bytes, program: str | Path | None = None,
 
     from .processes import aside, called, ended
 
-    told_of, program = in_words(program), str(program or program_path())
+    told_of, program, news = in_words(program), str(program or program_path()), news or NEWS.get()
     told: list[str] = []
     kept: list[bytes] = []
 

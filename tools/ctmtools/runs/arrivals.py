@@ -8,6 +8,7 @@ one lane have their gaps together.
 from __future__ import annotations
 
 from collections.abc import Iterator, Sequence
+from dataclasses import dataclass
 from itertools import groupby
 from zlib import crc32
 
@@ -26,18 +27,38 @@ TINY = 1e-9  # vehicles
 SLOWEST = (1, 1000)  # of a road's free-flow speed, the least that a network file has
 
 
-def at_random(network: Network, giving: Sequence[Sequence[str]], seed: int, number: int) -> Network:
+@dataclass(frozen=True)
+class Draw:
+    """By what is drawn when vehicles come: a seed and the number of the draw, each with the names of gates and cells."""
+
+    seed: int
+    number: int
+
+    def generator(self, name: str) -> numpy.random.Generator:
+        """The generator of what is drawn under a name."""
+        return numpy.random.default_rng([self.seed, self.number, crc32(name.encode())])
+
+
+def drawn_network(network: Network, yields: Sequence[Yield], units: Units, draw: Draw) -> Network:
+    """The network of a study with the arrivals and gaps of a draw, of whose streams some give way.
+
+    A gap is written as a speed limit, so what may pass of its cells is that of the network itself.
+    """
+    return at_random(network, lanes_giving_way(yields, units), draw)
+
+
+def at_random(network: Network, giving: Sequence[Sequence[str]], draw: Draw) -> Network:
     """The network with the arrivals and gaps of a draw; each of those who give way is the cells of a lane that has its gaps together.
 
-    The draw is by the seed, its number and the names of gates and cells, so other gates leave it as it is.
+    Other gates leave what is drawn for one as it is.
     """
     drawn = {cell for cells in giving for cell in cells}
     kept = [one for one in network.records if one.kind != "demand" and not (one.kind == "limit" and one.values[0] in drawn)]
     gates = dict.fromkeys(one.values[0] for one in network.records if one.kind == "demand")
     for gate in gates:
-        kept += _arrivals(network, gate, _generator(seed, number, gate))
+        kept += _arrivals(network, gate, draw.generator(gate))
     for cells in giving:
-        kept += _gaps(network, cells, _generator(seed, number, min(cells)))
+        kept += _gaps(network, cells, draw.generator(min(cells)))
     records = [record("steps", network.steps), *(one for one in kept if one.kind != "steps")]
     return network_of(file_text(form_of(records), records).encode())
 
@@ -50,10 +71,6 @@ def lanes_giving_way(yields: Sequence[Yield], units: Units) -> list[list[str]]:
             lane = tuple(one.shared.roads) if one.shared and one.shared.count == 1 else (one.road,)
             lanes.setdefault(lane, []).append(cell_of(one.road, units))
     return list(lanes.values())
-
-
-def _generator(seed: int, number: int, name: str) -> numpy.random.Generator:
-    return numpy.random.default_rng([seed, number, crc32(name.encode())])
 
 
 def _arrivals(network: Network, gate: str, random: numpy.random.Generator) -> Iterator[Record]:

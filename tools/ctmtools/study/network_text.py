@@ -3,13 +3,13 @@
 from __future__ import annotations
 
 from collections import Counter
-from collections.abc import Iterable, Iterator
-from dataclasses import dataclass, field
+from collections.abc import Iterable, Iterator, Sequence
+from dataclasses import dataclass, field, replace
 from fractions import Fraction
 from itertools import groupby
 
 from ..network_file.faults import NAME, fault_of_made
-from ..network_file.kinds import COUNTED, KINDS, MOST_RECORDS, NAME_RULE, Record, headings, record
+from ..network_file.kinds import COUNTED, KINDS, MOST_PARTS, MOST_RECORDS, NAME_RULE, Record, headings, record
 from ..network_file.network import Network, fault_line
 from ..network_file.records import read_records
 from ..problem import Problem
@@ -28,6 +28,7 @@ from .signals import Signals
 from .speeds import Speeds
 
 MADE = "# Made by ctm-tools build"
+DEMAND = f"\n# {headings('demand')}\n".encode()
 MOST_FREE = 8  # of those who give way a network without it names so many
 FIXED = "are as long as `green` says in this network"
 
@@ -230,3 +231,37 @@ def demands(study: Scenario, scale: Scale) -> Iterator[Record]:
             if parts:
                 yield record("demand", gate.name, begin, end, parts)
         scale.rounding.note(f"vehicles that come to gate {gate.name}", asked, modelled, "vehicles")
+
+
+class BuiltOnce:
+    """The network of a study as it stands, and those of studies that differ from it by their demand alone, as draws may."""
+
+    def __init__(self, study: Scenario) -> None:
+        self.study, self.built = study, build(study)
+        network = self.built.network
+        self.records = [one for one in network.records if one.kind != "demand"]
+        self.head = network.content.partition(DEMAND)[0]
+        self.first = sum(one.named["first"] for one in self.records if one.kind in ("road", "gate"))
+        own, _ = self._demand(study)
+        duration, *_ = own.notes  # which is the study's
+        self.notes = [note for note in self.built.rounding.notes if note == duration or note not in own.notes]
+
+    def with_demand(self, study: Scenario) -> Built:
+        """The network with the demand of another study."""
+        rounding, made = self._demand(study)
+        if self._is_beyond(made):
+            return build(study)  # which says why there is none
+        text = DEMAND + b"".join(f"{one.text}\n".encode() for one in made) if made else b""
+        network = Network(self.built.network.steps, [*self.records, *made], self.head + text)
+        rounding.notes = {**dict.fromkeys(self.notes), **rounding.notes}
+        return replace(self.built, network=network, rounding=rounding)
+
+    def _demand(self, study: Scenario) -> tuple[Rounding, list[Record]]:
+        """The records of a study's demand, and what is rounded in them."""
+        rounding = Rounding()
+        return rounding, list(demands(study, Scale(study, rounding)))
+
+    def _is_beyond(self, made: Sequence[Record]) -> bool:
+        """Whether there may be a fault in a demand, or so many that the file has another format."""
+        parts = sum(one.named["amount"] * (one.named["to"] - one.named["from"]) for one in made)
+        return self.first + parts > MOST_PARTS or len(made) > MOST_RECORDS[1]

@@ -1,4 +1,4 @@
-"""What of a study is uncertain: keys that vary, which of them vary together, and incidents."""
+"""What of a study is uncertain: keys that vary, which of them vary together, incidents, and when vehicles come."""
 
 from __future__ import annotations
 
@@ -15,6 +15,7 @@ from .keys import FACTOR
 from .times import RoadPart, Times, road_part
 
 ROUNDING = 1e-9  # by which an eigenvalue of a correlation may fall below 0
+AT_RANDOM = "random"
 
 
 @dataclass(frozen=True)
@@ -51,33 +52,37 @@ class Incidents:
 
 @dataclass(frozen=True)
 class Uncertainty:
-    """All that is uncertain of a study."""
+    """All that is uncertain of a study; with `arrivals` vehicles come at random in each draw."""
 
     varying: tuple[Varying, ...] = ()
     together: tuple[Together, ...] = ()
     incidents: tuple[Incidents, ...] = ()
+    arrivals: bool = False
 
     def __bool__(self) -> bool:
-        return bool(self.varying or self.incidents)
+        return bool(self.varying or self.incidents or self.arrivals)
 
 
 def uncertainty_of(tables: Sequence[Entries], times: Times) -> Uncertainty:
-    """What the tables of `[[uncertain]]` say: each has a `key`, or `keys` that vary together, or the road of `incidents`."""
+    """What the tables of `[[uncertain]]` say: each has a `key`, or `keys` that vary together, the road of `incidents`, or `arrivals`."""
     varying: list[Varying] = []
     together: list[Together] = []
     incidents: list[Incidents] = []
+    arrivals = False
     for table in tables:
-        kinds = [name for name in ("key", "keys", "incidents") if table.has(name)]
+        kinds = [name for name in ("key", "keys", "incidents", "arrivals") if table.has(name)]
         if len(kinds) != 1:
-            raise Problem(f"{table.place}: say one of key, keys and incidents")
+            raise Problem(f"{table.place}: say one of key, keys, incidents and arrivals")
         if kinds == ["key"]:
             varying.append(_varying(table, varying))
         elif kinds == ["keys"]:
             together.append(_together(table))
+        elif kinds == ["arrivals"]:
+            arrivals = _arrivals(table)
         else:
             incidents.append(_incidents(table, times))
     _check_together(varying, together)
-    return Uncertainty(tuple(varying), tuple(together), tuple(incidents))
+    return Uncertainty(tuple(varying), tuple(together), tuple(incidents), arrivals)
 
 
 def _varying(table: Entries, before: Sequence[Varying]) -> Varying:
@@ -123,6 +128,15 @@ def _together(table: Entries) -> Together:
     if numpy.linalg.eigvalsh(matrix).min() < -ROUNDING:
         raise Problem(f"{table.key('correlation')}: no values vary together like this; its least eigenvalue is below 0")
     return Together(tuple(keys), tuple(map(tuple, rows)))
+
+
+def _arrivals(table: Entries) -> bool:
+    """That vehicles come at random, which is all that may be said of them."""
+    value = table.take("arrivals", word)
+    if value != AT_RANDOM:
+        raise Problem(f"{table.key('arrivals')}: expected {AT_RANDOM}, found {shown(value)}; without it they come evenly")
+    table.done()
+    return True
 
 
 def _check_together(varying: Sequence[Varying], together: Sequence[Together]) -> None:

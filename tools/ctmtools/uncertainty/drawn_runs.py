@@ -152,14 +152,16 @@ class DrawnRuns:
     def _task(self, plan: Plan, values: Mapping[str, Any]) -> Task:
         """The run of a plan with values for the keys that vary; none of them where it stands as it is."""
         factors = {key: value for key, value in values.items() if gate_of_factor(key) is not None}
-        made = with_drawn(plan.values, self.uncertainty.varying, values) if values else plan.values
+        own = any(gate_of_factor(key) is None for key in values)
+        made = with_drawn(plan.values, self.uncertainty.varying, values) if own else plan.values
         return Task(made, str(plan.path.resolve()), factors, self.program, self.every)
 
     def _draw_task(self, plan: Plan, number: int) -> DrawTask:
         values = drawn(self.uncertainty, self.seed, number) if number != AS_IT_STANDS else {}
         incidents = self.uncertainty.incidents if number != AS_IT_STANDS else ()
         first = self._task(self.plans[0], values) if incidents else None
-        return DrawTask(self._task(plan, values), first, incidents, self.seed, number, self.asked)
+        arrivals = self.uncertainty.arrivals and number != AS_IT_STANDS
+        return DrawTask(self._task(plan, values), first, incidents, self.seed, number, self.asked, arrivals)
 
     def _mark(self) -> str:
         """A short text that another uncertainty, seed or question would change, and with incidents another first plan."""

@@ -62,7 +62,7 @@ def what_varies(plans: Sequence[Plan], given: Path | None) -> Uncertainty:
         if other.study.uncertain and other.study.uncertain != found:
             raise Problem(f"{other.path}: its [[uncertain]] isn't that of {first.path}; say one for both by --with FILE")
     if not found:
-        raise Problem(f"{first.path}: has no [[uncertain]] with a key or incidents, and no file is named by --with")
+        raise Problem(f"{first.path}: has no [[uncertain]] with a key, incidents or arrivals, and no file is named by --with")
     return found
 
 
@@ -73,7 +73,7 @@ def _read(path: Path, study: Scenario) -> Uncertainty:
         found = uncertainty_of(entries.list(UNCERTAIN), Times(study))
         entries.done()
         if not found:
-            raise Problem("uncertain: has no key that varies and no incidents")
+            raise Problem("uncertain: has no key that varies, no incidents and no arrivals")
     except Problem as problem:
         raise type(problem)(f"{path}: {str(problem).removeprefix(f'{path}: ')}") from None
     return found

@@ -39,7 +39,8 @@ class Draws(Results):
     """The draws of some plans, a row for each plan and draw, with the figures of the plans as they stand and their free times.
 
     `times` are the clock times that a queue may last past, in s after the start; `asked_for` are the draws that were asked
-    for, of which `count` were made. `networks` has the checksum of the network of each plan as it stands.
+    for, of which `count` were made. `networks` has the checksum of the network of each plan as it stands. With `arrivals` vehicles
+    come at random in each draw, and evenly in the plans as they stand.
     """
 
     title: str
@@ -52,6 +53,7 @@ class Draws(Results):
     stand: dict[str, dict[str, Any]]
     free: dict[str, dict[str, float]]
     networks: dict[str, str]
+    arrivals: bool = False
 
     @property
     def plans(self) -> list[str]:
@@ -173,7 +175,7 @@ def results_of(drawn_runs: DrawnRuns, times: Mapping[str, float] | None = None) 
                  titles=dict(zip(measured, titles)), seed=drawn_runs.seed, count=drawn_runs.count, asked_for=drawn_runs.runs,
                  places=drawn_runs.asked.places, times=dict(times or {}), stand={plan: flat(one) for plan, one in measured.items()},
                  free={plan: one["free"] for plan, one in measured.items()},
-                 networks={plan: one["network"] for plan, one in measured.items()})
+                 networks={plan: one["network"] for plan, one in measured.items()}, arrivals=drawn_runs.uncertainty.arrivals)
 
 
 def bars_of(delays: Mapping[str, Numbers]) -> tuple[Numbers, dict[str, Numbers]]:

@@ -2,78 +2,95 @@
 
 from __future__ import annotations
 
-from collections.abc import Iterator, Mapping
+import re
+from collections.abc import Iterator
 
 import pandas
 
+from ..approaches.by_approach import by_approach
+from ..approaches.stages import Stages
 from ..report.by_road import by_road
 from ..report.reading import Report
-from ..runs.arrivals import at_random, lanes_giving_way
+from ..report.routes import roads_and_gates
+from ..runs.arrivals import Draw, drawn_network
 from ..runs.running import Done, Prepared, run
-from ..study.movements import movement_road, movements
-from ..study.plan import Crossing, Scenario
 from ..texts.quantities import HOUR
 from ..texts.text_table import table
 from .reliability import of_mean
 
 MOST_TOLD = 12
 METRES = 1000
+GATE = "gate "
+PART = re.compile(r"-(?:pocket|lanes)[0-9]+$")
+COLUMNS = ["road", "left", "delay", "delay_each", "queue"]
 HEADS = ("approach or road", "vehicles", "delay of each, even", "at random", "longest queue, even", "at random")
 
 
 def seeded(prepared: Prepared, count: int, seed: int = 1, done: Done | None = None) -> pandas.DataFrame:
     """A row for each draw, from 1 on, and each approach or road: `left` vehicles, `delay` in vehicle-hours, `delay_each` in s, and
-    `queue`, the longest in m.
+    `queue`, the longest in m. `attrs["delays"]` has the delay of all in each draw.
     """
-    study = prepared.settled.study if prepared.settled else None
-    lanes, approaches = (lanes_giving_way(study.yields, prepared.units), approaches_of(study)) if study else ([], {})
-    found = []
+    yields = prepared.settled.study.yields if prepared.settled else []
+    found, delays = [], []
     for number in range(1, count + 1):
-        network = at_random(prepared.network, lanes, seed, number)
-        _, report = run(network.content, str(prepared.path), prepared.units, network=network)
-        found.append(by_approach(report, approaches).assign(draw=number))
+        network = drawn_network(prepared.network, yields, prepared.units, Draw(seed, number))
+        _, report = run(network.content, str(prepared.path), prepared.units, network=prepared.network)
+        found.append(parts_of(report).assign(draw=number))
+        delays.append(report.units.hours(report.sums.delay))
         if done:
             done(1, f"draw {number}")
-    return pandas.concat(found, ignore_index=True)
+    frame = pandas.concat(found, ignore_index=True)
+    frame.attrs["delays"] = delays
+    return frame
 
 
-def by_approach(report: Report, approaches: Mapping[str, str]) -> pandas.DataFrame:
-    """A row for each approach of a junction, with the gate, the pockets and the cells by which it is driven, and each other road."""
+def parts_of(report: Report) -> pandas.DataFrame:
+    """A row for each approach, with all that waits before its stop line, and for each other road or gate.
+
+    It has what the run has alone: what the manual adds for arrivals at random would count them twice where they are drawn.
+    """
+    own = _approaches(report)
+    found = pandas.concat([own, _others(report)], ignore_index=True)
+    owners = [_owner(name, report) for name in found.road]
+    sums = found.assign(road=owners).groupby("road", sort=False).agg({"left": "max", "delay": "sum", "queue": "max"}).reset_index()
+    several = own.assign(road=owners[:len(own)]).groupby("road").left.sum()  # an approach with pockets has its vehicles in parts
+    sums["left"] = sums.road.map(several).fillna(sums.left)
+    sums["delay_each"] = (sums.delay * HOUR / sums.left).where(sums.left > 0)
+    return sums[COLUMNS]
+
+
+def _owner(name: str, report: Report) -> str:
+    """What a part belongs to: pockets, and lanes beside them, to the road before them, and a gate to the road that it leads into."""
+    units = report.units
+    if name.startswith(GATE):
+        downs = report.need_network().downs[name.removeprefix(GATE)]
+        roads = {str(units.cells[cell]["road"]) for cell in downs if cell in units.cells}
+        name = roads.pop() if len(roads) == 1 else name
+    road = PART.sub("", name)
+    return road if road in units.roads else name
+
+
+def _approaches(report: Report) -> pandas.DataFrame:
+    if not report.units.approaches:
+        return pandas.DataFrame(columns=COLUMNS)
+    frame = by_approach(report, drawn=True).drop(columns="queue").rename(columns={"approach": "road", "longest_queue": "queue"})
+    return frame[COLUMNS]
+
+
+def _others(report: Report) -> pandas.DataFrame:
+    """The roads and gates of which no cell is of an approach."""
+    known = {cell for approach in report.units.approaches for cell in Stages(report, approach).cells}
+    others = [name for name, cells in roads_and_gates(report).items() if known.isdisjoint(cells)]
     frame = by_road(report)
-    names = frame.road.map(lambda road: approaches.get(road, road))
-    found = frame.groupby(names, sort=False).agg({"left": "max", "delay": "sum", "queue": "max"}).rename_axis("road").reset_index()
-    found["delay_each"] = (found.delay * HOUR / found.left).where(found.left > 0)
-    found["queue"] *= METRES
-    return found[["road", "left", "delay", "delay_each", "queue"]]
+    return frame[frame.road.isin(others)].assign(queue=frame.queue * METRES)[COLUMNS]
 
 
-def approaches_of(study: Scenario) -> dict[str, str]:
-    """For each road and gate by which an approach is driven the approach, a road or a gate."""
-    found: dict[str, str] = {}
-    for crossing in study.crossings:
-        found |= dict(_roads_of(crossing, study))
-    for gate in study.gates.values():
-        road = gate.into if gate.into else gate.name
-        found[f"gate {gate.name}"] = found.get(road, road)
-    return found
-
-
-def _roads_of(crossing: Crossing, study: Scenario) -> Iterator[tuple[str, str]]:
-    """The roads of the approaches of a junction, each with its approach."""
-    for i, source in enumerate(crossing.sources):
-        approach = crossing.approach(i)
-        yield from ((road, approach) for road in study.roads if road.startswith((f"{source}-fork", f"{approach}-lanes")))
-        yield from ((road, approach) for road in (source, approach))
-    yield from ((movement_road(crossing, way), crossing.approach(way[0])) for way in movements(crossing))
-
-
-def seed_lines(frame: pandas.DataFrame, report: Report, study: Scenario | None) -> Iterator[str]:
+def seed_lines(frame: pandas.DataFrame, report: Report) -> Iterator[str]:
     """What draws tell beside the run with even arrivals: the delay of all, and a row for each approach, the greatest delay first."""
-    even = by_approach(report, approaches_of(study) if study else {}).set_index("road")
-    total = frame.groupby("draw").delay.sum()
+    even, delays = parts_of(report).set_index("road"), pandas.Series(frame.attrs["delays"])
     yield ""
-    yield (f"Arrivals at random, {len(total)} draws: {_mean(total, 2)} vehicle-hours of delay, with even arrivals {even.delay.sum():,.2f}; "
-           "intervals hold the mean with 95 %")
+    yield (f"Arrivals at random, {len(delays)} draws: {_mean(delays, 2)} vehicle-hours of delay, with even arrivals "
+           f"{report.units.hours(report.sums.delay):,.2f}; intervals hold the mean with 95 %")
     yield ""
     order = frame.groupby("road").delay.mean().sort_values(ascending=False, kind="stable").index
     rows = [_row(road, frame[frame.road == road], even.loc[road]) for road in order[:MOST_TOLD]]

@@ -13,6 +13,7 @@ from ..report.routes import roads_and_gates
 from ..report.queues import stands
 from ..report.reading import Report
 from ..report.travel import cell_before, chain_of, trips
+from ..runs.arrivals import Draw
 from ..study.plan import Closure
 from ..study.uncertainty import Incidents
 from .incident import happened
@@ -31,7 +32,10 @@ class Asked:
 
 @dataclass(frozen=True)
 class DrawTask:
-    """A run to be made: a plan with its draw, and the incidents that it may have, by the vehicle-km of the first plan."""
+    """A run to be made: a plan with its draw, and the incidents that it may have, by the vehicle-km of the first plan.
+
+    With `arrivals` vehicles come at random, in both, by the seed and the number of the draw.
+    """
 
     plan: Task
     first: Task | None
@@ -39,6 +43,12 @@ class DrawTask:
     seed: int
     number: int
     asked: Asked
+    arrivals: bool = False
+
+    @property
+    def draw(self) -> Draw | None:
+        """By what arrivals are drawn, where they are."""
+        return Draw(self.seed, self.number) if self.arrivals else None
 
 
 def measure(task: DrawTask) -> dict[str, Any]:
@@ -52,7 +62,7 @@ def measure(task: DrawTask) -> dict[str, Any]:
     first = _first(task) if task.first else None
     closures = first.closures if first else []
     made.closures += closures
-    run = first.run if first and not closures and task.first == task.plan else ran(made, task.plan)
+    run = first.run if first and not closures and task.first == task.plan else ran(made, task.plan, task.draw)
     run.report.need_records()
     return {**figures(run.report, task.asked), "incidents": len(closures), "network": run.checksum, "rounded": run.notes}
 
@@ -68,7 +78,7 @@ class _First:
 def _first(task: DrawTask) -> _First:
     assert task.first is not None  # it is asked for where there may be incidents
     made = study(task.first)
-    run = ran(made, task.first)
+    run = ran(made, task.first, task.draw)
     run.report.need_records()
     return _First(run, happened(task.incidents, run.report, made, task.seed, task.number))
 
