@@ -11,8 +11,8 @@ use std::alloc::Global;
 use std::process::Abort;
 use std::thread::Threads;
 
-// An observer that ends the process where a region is taken that has made so many steps. So what it was told says how far each
-// region came.
+// An observer that ends the process where it is told of a region that has made so many steps. So what it was told of lies below
+// that number.
 #[derive(Drop)]
 pub(crate) struct StepLimit<'r, R: Abort> {
     rt: &'r R,
@@ -42,8 +42,8 @@ impl<'r, R: Abort + Sync> Observer for StepLimit<'r, R> {
     fn watched(&self, watched: Watched) {}
 }
 
-// A call with these words over a source, of which no region makes more than so many steps. Where `run` is done, the network
-// has no more.
+// A call with these words over a source, whose observer is told of no step from this number on. Where `run` is done, the network
+// has no more steps.
 pub(crate) fn call_within<R: Abort + Threads + Sync>(
     rt: &R,
     alloc: Global,

@@ -1,9 +1,9 @@
 -- What `save` wrote of an input, `resume` ends with the text that `run` has of that input.
 use Rattle.std.specs.Option.{option_or}
-use Rattle.std.specs.Prelude.{◌↔◌, if◌then◌else◌, nat_lt, IsOkAnd, String}
-use Rattle.std.specs.declared.alloc.Global.{Global}
+use Rattle.std.specs.Prelude.{◌↔◌, if◌then◌else◌, nat_lt, IsOkAnd}
 use Rattle.std.proofs.Common.{◌≡◌, ℕ, ◌≤◌, Bool, true, false, List, Option, Some, None, Result, Ok, Err, length, refl, sym, subst, ◌∙◌, arith}
 use Rattle.std.proofs.lemmas.Bool.Decides.{nat_tests}
+use Rattle.command_words.specs.Words.{IsInRange}
 use Rattle.command_words.specs.declared.mode.Mode.{Mode}
 use Rattle.command_words.specs.declared.mode.Mode.TheVariants.{Run, Save, Resume}
 use Rattle.command_words.specs.declared.request.Request.{Request}
@@ -13,8 +13,6 @@ use Rattle.network_file.specs.declared.fault.NetFault.{NetFault}
 use Rattle.call_ending.specs.Why.{Why}
 use Rattle.call_beginning.specs.Input.{large_input, most_input}
 use Rattle.call_beginning.specs.Task.{task_of}
-use Rattle.call_beginning.specs.Words.{requested}
-use Rattle.call_beginning.proofs.RequestedRange.{requested-in_range}
 use Rattle.call_beginning.proofs.SoundNetwork.{network_of-sound}
 use Rattle.run_modes.proofs.PlainRun.{run_refused-plain, run_text-plain}
 use Rattle.saved_modes.specs.SaveMode.{IsSavedRun, IsSaveText}
@@ -44,13 +42,13 @@ network-with (Ok net) P holds = (net, refl, holds)
 network-with (Err fault) P holds = absurd holds
 
 -- the run that a saved text is of, whose input wasn't too long
-record IsSavedOf (save : Request) (input saved : List ℕ) : Type 0 where
-  fits : length input ≤ most_input Save
-  net : Network
-  reads : network_of input ≡ Ok net
-  is : IsSavedRun net save input saved
+pub record IsSavedOf (save : Request) (input saved : List ℕ) : Type 0 where
+  pub fits : length input ≤ most_input Save
+  pub net : Network
+  pub reads : network_of input ≡ Ok net
+  pub is : IsSavedRun net save input saved
 
-saved-of : (save : Request) (input saved : List ℕ) → save.mode ≡ Save → IsTextTo save input saved → IsSavedOf save input saved
+pub saved-of : (save : Request) (input saved : List ℕ) → save.mode ≡ Save → IsTextTo save input saved → IsSavedOf save input saved
 saved-of save input saved mode answers =
     let task = task_of save input in
     let found = long-none (nat_lt (most_input save.mode) (length input)) large_input (why_by save.mode task) answers.0 in
@@ -59,12 +57,12 @@ saved-of save input saved mode answers =
     let run = network-with (network_of input) (λ net. IsSavedRun net save input saved) text in
     record { fits = grind (arith, nat_tests, short); net = run.0; reads = run.1; is = run.2 }
 
--- whatever else the three are asked with, where `run` records nothing, as `resume` does
-pub resumed-as-run : (words : List (String Global)) (save resume run : Request) (input saved text : List ℕ) → requested words ≡ Some save → save.mode ≡ Save → resume.mode ≡ Resume → run.mode ≡ Run →
+-- whatever else the three are asked with, in range (`requested-in_range`), where `run` records nothing, as `resume` does
+pub resumed-as-run : (save resume run : Request) (input saved text : List ℕ) → IsInRange save → save.mode ≡ Save → resume.mode ≡ Resume → run.mode ≡ Run →
     run.every ≡ 0 → IsTextTo save input saved → IsTextTo resume saved text ↔ IsTextTo run input text
-resumed-as-run words save resume run input saved text asked saves resumes runs never answers =
+resumed-as-run save resume run input saved text in_range saves resumes runs never answers =
     let of = saved-of save input saved saves answers in
-    let resumed = saved-resumed of.net save input saved (network_of-sound input of.net of.reads) (requested-in_range words save asked) of.reads of.fits of.is in
+    let resumed = saved-resumed of.net save input saved (network_of-sound input of.net of.reads) in_range of.reads of.fits of.is in
     let end = texts-by resume Resume saved text resumes resumed.whole (resumed.taken resume) in
     let plain = texts-by run Run input text runs of.fits (run_refused-plain run input of.net of.reads never) in
     let same = run_text-plain run input of.net text of.reads never in (
