@@ -82,9 +82,26 @@ def permitted_left(towards, left, through=200, first=30, second=30):
 
 def two_phases(first, second):
     """North and south are green together, then west and east, each for so long, the last of it red."""
-    phases = "".join(f'<phase duration="{lasting}" state="{streets}"/>' for lasting, streets in (
-        (first - RED, "NS"), (RED, "--"), (second - RED, "WE"), (RED, "--")))
-    return f'<tlLogic id="J" type="static" programID="made" offset="0">{phases}</tlLogic>'
+    greens = [" ".join(f"{arm}r {arm}s {arm}l?" for arm in arms) for arms in ("NS", "WE")]
+    return signal("J", ((first - RED, greens[0]), (RED, ""), (second - RED, greens[1]), (RED, "")))
+
+
+def signal(name, phases, offset=0, sort="static"):
+    """A signal of phases: how long each lasts, or the least and the most, and who is green in it, as `letter` has it."""
+    rows = "".join(f'<phase {_lasting(lasting)} state="{greens}"/>' for lasting, greens in phases)
+    return f'<tlLogic id="{name}" type="{sort}" programID="made" offset="{offset}">{rows}</tlLogic>'
+
+
+def _lasting(lasting):
+    if isinstance(lasting, tuple):
+        return f'duration="{lasting[0]}" minDur="{lasting[0]}" maxDur="{lasting[1]}"'
+    return f'duration="{lasting}"'
+
+
+def letter(greens, arm, turn):
+    """SUMO's letter of a movement in a phase, in which `Ns` is green and `Nl?` too, but gives way."""
+    words = greens.split()
+    return "G" if arm + turn in words else "g" if f"{arm}{turn}?" in words else "r"
 
 
 def crossing():
@@ -146,7 +163,7 @@ class Sumo:
         self.alone = self._lost_alone() if sum(streets.flows.values()) else {}
 
     def _convert(self):
-        """The network; the greens of a signal are those of the streets that are green, left turns without priority."""
+        """The network, and its signals, whose movements are known by the first letter of their street and by their turn."""
         made = self.streets
         for name, inside, text in ("nod", "nodes", made.nodes), ("edg", "edges", made.edges), ("con", "connections", made.joins):
             (self.folder / f"n.{name}.xml").write_text(f"<{inside}>{text}</{inside}>")
@@ -155,13 +172,13 @@ class Sumo:
         if not made.signal:
             return
         net = ElementTree.parse(self.folder / "n.net.xml").getroot()
-        links = sorted((int(one.get("linkIndex")), one.get("from")[0], one.get("dir"))
-                       for one in net.iter("connection") if one.get("tl"))
-        signal = made.signal
-        for streets in ("NS", "WE", "--"):
-            state = "".join(("g" if turn == "l" else "G") if arm in streets else "r" for _, arm, turn in links)
-            signal = signal.replace(f'"{streets}"', f'"{state}"')
-        (self.folder / "n.tll.xml").write_text(f"<tlLogics>{signal}</tlLogics>")
+        signals = ElementTree.fromstring(f"<tlLogics>{made.signal}</tlLogics>")
+        for one in signals:
+            links = sorted((int(link.get("linkIndex")), link.get("from")[0], link.get("dir").lower())
+                           for link in net.iter("connection") if link.get("tl") == one.get("id"))
+            for phase in one:
+                phase.set("state", "".join(letter(phase.get("state"), arm, turn) for _, arm, turn in links))
+        ElementTree.ElementTree(signals).write(self.folder / "n.tll.xml")
         run(*words, "-i", "n.tll.xml", cwd=self.folder)
 
     def _take_rilsa(self):
