@@ -153,17 +153,24 @@ def following(first, second):
     return Junction("traffic_light", arms, ("Ss",), phases), lambda: capacity, None
 
 
+# Why the tools may differ, by kind: the gaps that docs/SUMO.md fitted, which no run of these cases has set apart yet.
+LONG_GAPS = "perhaps that SUMO's drivers want longer gaps, 8.3 s to the right in place of 6.2"
+CAUSES = {"shared lane": LONG_GAPS, "two-way stop": LONG_GAPS, "flare": LONG_GAPS,
+          "permitted left": "perhaps that SUMO's drivers want gaps of 7.7 s in place of 4.5, and one turns at the end of a green in place of two",
+          "all-way stop": "the tools have no rule of an all-way stop"}
+IN_LANE = "cause not found; the tools have less than the manual too"
+TURN_LIMITS = LONG_GAPS + "; the manual adds both lanes up, but no more turn left than their own lane passes"
 UNEQUAL = {"S": {"r": 90, "s": 180, "l": 80}, "W": {"r": 30, "s": 650, "l": 40}, "N": {"r": 40, "s": 60, "l": 40}, "E": {"r": 40, "s": 300, "l": 40}}
 FOLLOWING = Arterial(500, 300, 0, is_actuated=True)
 CASES = [
     Case("shared lane, half left, 200", "shared lane", *side_street(100, 100)),
     Case("shared lane, a quarter left, 240", "shared lane", *side_street(180, 60)),
     Case("flare for one, 240", "flare", *side_street(120, 120, 1), at_flow=True),
-    Case("flare for two, 240", "flare", *side_street(120, 120, 2), at_flow=True),
+    Case("flare for two, 240", "flare", *side_street(120, 120, 2), at_flow=True, cause=TURN_LIMITS),
     *(Case(f"permitted left, {left} against {against}", "permitted left", *permitted_pocket(against, left))
       for against, left in ((300, 100), (300, 250), (500, 75), (500, 150), (700, 40), (700, 80))),
-    Case("one lane, a fifth left, against 300", "shared lane", *permitted_lane(300, 320, 80)),
-    Case("one lane, half left, against 300", "shared lane", *permitted_lane(300, 130, 130)),
+    Case("one lane, a fifth left, against 300", "shared lane", *permitted_lane(300, 320, 80), cause=IN_LANE),
+    Case("one lane, half left, against 300", "shared lane", *permitted_lane(300, 130, 130), cause=IN_LANE),
     Case("protected left, 200", "protected", *protected(200)),
     Case("protected and permitted left, 350", "both", *both(400, 350)),
     Case("stop, right, 300 beside 600", "two-way stop", *right_out(600, 1, 300)),
@@ -173,9 +180,10 @@ CASES = [
     Case("all-way stop, 250 on each arm", "all-way stop", *all_stop(250, 250), is_modelled=False),
     Case("all-way stop, 350 and 150", "all-way stop", *all_stop(350, 150), is_modelled=False),
     Case("roundabout, 480 on each arm", "roundabout", *ring(alike(480)), at_flow=True),
-    Case("roundabout, 350 beside 730", "roundabout", *ring(UNEQUAL), at_flow=True),
+    Case("roundabout, 350 beside 730", "roundabout", *ring(UNEQUAL), at_flow=True, cause="perhaps that SUMO's drivers want gaps of 7.0 s in place of 5.0"),
     Case("roundabout, one lane into two, 500", "roundabout", *ring(alike(500), ("one into two",), 2), at_flow=True),
-    Case("roundabout, two lanes into two, 700", "roundabout", *ring(alike(700), ("left of two into two", "right of two into two"), 2, 2), at_flow=True),
+    Case("roundabout, two lanes into two, 700", "roundabout", *ring(alike(700), ("left of two into two", "right of two into two"), 2, 2), at_flow=True,
+         cause="who gives way passes as from one lane"),
     Case("pocket of 40 m, protected, 150 left", "pocket", *spilling(150, 40, False), at_random=True),
     Case("pocket of 30 m, permitted, 200 left", "pocket", *spilling(200, 30, True), at_random=True),
     Case("two signals, a green wave", "arterial", *arterial(29), at_random=True),

@@ -4,7 +4,7 @@ from pathlib import Path
 from town_junctions import STEP
 
 LASTING = 1200  # s
-BEGINS = 300  # s until those who pass are counted
+BEGINS = 320  # s until those who pass are counted, and 11 cycles behind
 DRAWS = 10
 
 
