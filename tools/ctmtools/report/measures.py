@@ -27,7 +27,11 @@ class Measures(NamedTuple):
 def edie(distance: Numbers, spent: Numbers, area: Numbers, hour: float) -> Measures:
     """The measures of areas by the distance driven and the time spent in each, both times in steps, of which an hour has so many."""
     with numpy.errstate(invalid="ignore", divide="ignore"):
-        return Measures(spent / area, distance / area * hour, numpy.where(spent > 0, distance / spent, numpy.nan) * hour)
+        flow, speed = distance / area, distance / spent
+        flow *= hour
+        speed[spent <= 0] = numpy.nan
+        speed *= hour
+        return Measures(spent / area, flow, speed)
 
 
 def measured(report: Report, bounds: Sequence[int] | Wholes | None = None, cells: Sequence[str] | None = None,
@@ -37,14 +41,15 @@ def measured(report: Report, bounds: Sequence[int] | Wholes | None = None, cells
     They are in vehicles/km, vehicles/h and km/h, or in vehicles in a cell, vehicles in a step and cells in a step. By default all
     recorded steps are taken, all cells, and the lengths that the units have. A cell without a length, as a gate, has a flow alone.
     """
-    places = numpy.arange(len(report.names)) if cells is None else report.places(cells)
+    places: Wholes | slice = slice(None) if cells is None else report.places(cells)
     own = report.lengths[places] if lengths is None else lengths
     passed, spent = (_sums(report, values, bounds) for values in (report.passed[:, places], report.spent[:, places]))
     lasting = _sums(report, report.lasting, bounds)
-    known = ~numpy.isnan(own)
-    driven = numpy.where(known, own, 1.0)
+    lacking = numpy.isnan(own)
+    driven = numpy.where(lacking, 1.0, own)
     found = edie(passed * driven, spent, lasting * driven, hour_of(report))
-    return Measures(numpy.where(known, found.density, numpy.nan), found.flow, numpy.where(known, found.speed, numpy.nan))
+    found.density[:, lacking] = found.speed[:, lacking] = numpy.nan
+    return found
 
 
 def measured_together(report: Report, bounds: Sequence[int] | Wholes, cells: Sequence[str], lanes: Numbers,

@@ -2,7 +2,7 @@
 
 from __future__ import annotations
 
-from collections.abc import Iterable, Iterator
+from collections.abc import Iterable, Iterator, Sequence
 from dataclasses import dataclass, field
 from itertools import pairwise
 from typing import TYPE_CHECKING
@@ -93,7 +93,7 @@ def stands_in(report: Report) -> Flags:
 def queues_in(report: Report) -> list[Queue]:
     """The queues of a report, the most costly first."""
     found, cells = stands_in(report.waiting), report.waiting.names
-    runs = {cells[place]: _runs(found[:, place]) for place in numpy.flatnonzero(found.any(axis=0)).tolist()}
+    runs = _runs(found, cells)
     joined = Joined((cell, i) for cell, spans in runs.items() for i in range(len(spans)))
     for up in runs:
         for down in report.need_network().downs[up]:
@@ -187,10 +187,16 @@ def vehicles_waiting(report: Report) -> Numbers:
     return waits
 
 
-def _runs(flags: Flags) -> list[Span]:
-    """The spans over which the flags are true."""
-    edges = numpy.diff(numpy.concatenate([[0], flags.astype(int), [0]]))
-    return [(int(begin), int(end)) for begin, end in zip(numpy.flatnonzero(edges == 1), numpy.flatnonzero(edges == -1))]
+def _runs(flags: Flags, cells: Sequence[str]) -> dict[str, list[Span]]:
+    """The spans over which the flags of each cell are true, where any is."""
+    edges = numpy.zeros((flags.shape[1], len(flags) + 2), dtype=numpy.int8)
+    edges[:, 1:-1] = flags.T
+    changes = numpy.diff(edges)
+    (places, begins), ends = numpy.nonzero(changes == 1), numpy.nonzero(changes == -1)[1]
+    found: dict[str, list[Span]] = {}
+    for place, begin, end in zip(places.tolist(), begins.tolist(), ends.tolist()):
+        found.setdefault(cells[place], []).append((begin, end))
+    return found
 
 
 def _touching(one: list[Span], two: list[Span]) -> Iterator[tuple[int, int]]:

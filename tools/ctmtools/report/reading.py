@@ -147,12 +147,14 @@ class Report:
         Else they are in proportion to what the cell would hold beyond what leaves it, had what it holds changed evenly, and where
         that is nowhere anything evenly over time.
         """
-        beyond = numpy.clip(self._held() - numpy.diff(self.records.left, axis=0), 0, None)
-        whole, wait = beyond.sum(axis=0), numpy.rint(self.amounts.wait * PARTS)
-        waited: Numbers = beyond * (wait / numpy.where(whole > 0, whole, 1))
+        waited: Numbers = self._held() - numpy.diff(self.records.left, axis=0)
+        numpy.maximum(waited, 0, out=waited)
+        whole, wait = waited.sum(axis=0), numpy.rint(self.amounts.wait * PARTS)
+        waited *= wait / numpy.where(whole > 0, whole, 1)
         if (lost := (whole <= 0) & (wait > 0)).any():
             waited[:, lost] = self.lasting / self.lasting.sum() * wait[lost]
-        return waited / PARTS
+        waited /= PARTS
+        return waited
 
     @cached_property
     def spent(self) -> Numbers:
@@ -163,12 +165,14 @@ class Report:
         """
         spent = self.passed + self.waited
         if len(kept := self._exits):
-            spent[:, kept] = self._held()[:, kept] / PARTS
+            spent[:, kept] = self._held(kept) / PARTS
         return spent
 
-    def _held(self) -> Numbers:
-        """The sums over the steps from a recorded step to the next of the parts in each cell, if these changed evenly between them."""
-        held = self.records.vehicles
+    def _held(self, places: Wholes | slice = slice(None)) -> Numbers:
+        """The sums over the steps from a recorded step to the next of the parts in cells, if these changed evenly between them."""
+        held = self.records.vehicles[:, places]
+        if (self.lasting == 1).all():
+            return held[:-1].astype(float)
         sums: Numbers = held[:-1] * self.lasting + numpy.diff(held, axis=0) * ((self.lasting - 1) / 2)
         return sums
 

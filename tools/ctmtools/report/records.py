@@ -25,8 +25,8 @@ ZEROS = numpy.uint64(0x3030303030303030)  # eight times the letter 0
 TO_NINE = numpy.uint64(0x7676767676767676)  # takes a byte beyond 127 where it is above 9
 HIGHEST = numpy.uint64(0x8080808080808080)
 LAST = numpy.array([(1 << 64) - (1 << 8 * (EIGHT - digits)) for digits in range(EIGHT + 1)], dtype=numpy.uint64)  # so many bytes
-JOINING = [tuple(map(numpy.uint64, terms)) for terms in ((10 << 8 | 1, 0xFF00FF00FF00FF00, 8), (100 << 16 | 1, 0xFFFF0000FFFF0000, 16),
-                                                         (10000 << 32 | 1, 0xFFFFFFFF00000000, 32))]
+JOINING = [tuple(map(numpy.uint64, terms)) for terms in ((10 << 8 | 1, 0xFF00FF00FF00FF00, 8), (100 << 16 | 1, 0xFFFF0000FFFF0000, 16))]
+JOINED = numpy.uint64(10000 << 32 | 1)  # of two numbers of four digits
 
 
 class Records:
@@ -199,4 +199,6 @@ def _number(eight: Eights, last: Eights) -> Parts:
         eight *= times
         eight &= mask
         eight >>= bits
+    eight *= JOINED
+    eight >>= numpy.uint64(32)
     return eight.view(numpy.int64)

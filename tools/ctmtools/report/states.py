@@ -39,19 +39,18 @@ def states(report: Report) -> pandas.DataFrame:
     import pandas  # here and below, so that a run of which no frame is asked doesn't load it
 
     report.need_records()
-    units, cells, found = report.units, report.names, measured(report)
+    units, cells, found, shape = report.units, report.names, measured(report), report.records.vehicles.shape
     columns = {
-        "time": numpy.repeat(times(units, report.times), len(cells)),
-        "cell": numpy.tile(numpy.array(cells, dtype=object), len(report.times)),
+        "time": _by_row(times(units, report.times), shape),
+        "cell": _by_column(numpy.array(cells, dtype=object), shape),
         "vehicles": (report.records.vehicles / PARTS).ravel(),
         **{name: _padded(getattr(found, name)) for name in ("flow", "density", "speed")},
     }
     if report.network is not None and report.network.paces:
         parts = report.free_parts
         columns["speed_limit"] = _padded(numpy.where(parts < 1, parts, numpy.nan) * report.lengths * hour_of(report))
-    columns["step"] = numpy.repeat(report.times, len(cells))
-    rows = numpy.tile(numpy.arange(len(cells)), len(report.times))
-    columns |= {name: values.take(rows) for name, values in _places(units, cells).items()}
+    columns["step"] = _by_row(report.times, shape)
+    columns |= _places(units, cells, shape)
     frame, named = pandas.DataFrame(columns, copy=False), KNOWN if units.known else UNKNOWN
     frame.attrs["units"] = {**named, **({"speed_limit": named["speed"]} if "speed_limit" in frame else {})}
     return frame
@@ -66,7 +65,7 @@ def totals(report: Report, value_of_time: float | None = None) -> pandas.DataFra
     """
     frame = report.cells.rename(columns={"n": "vehicles", "come": "entered", "gone": "left", "wait": "delay"}).reset_index()
     frame["delay"] = report.units.hours(frame["delay"])
-    frame = frame.assign(**_places(report.units, report.names))
+    frame = frame.assign(**_places(report.units, report.names, (len(frame),)))
     if value_of_time is not None:
         if not report.units.known:
             raise Problem(f"{report.name}: the units aren't known, so the delay has no cost")
@@ -105,7 +104,7 @@ def queues_of(report: Report) -> pandas.DataFrame:
         "spells": [queue.spells for queue in queues],
         "longest_reach": [queue.longest_reach for queue in queues],
         "waiting_upstream": [waiting_upstream(report, [queue]) for queue in queues],
-    })
+    }, copy=False)
     reach = "km" if units.known else "cells"
     frame.attrs["units"] = {"reach": reach, "longest_reach": reach, "most_waiting": "vehicles",
                             "delay": units.delay_unit}
@@ -126,20 +125,34 @@ def times(units: Units, steps: Sequence[float] | Numbers | Wholes) -> Any:
     return found
 
 
-def _places(units: Units, cells: Sequence[str]) -> dict[str, Any]:
-    """Road, kilometres and lanes of cells, an array of each; none where no units are known."""
+def _places(units: Units, cells: Sequence[str], shape: tuple[int, ...]) -> dict[str, Any]:
+    """Road, kilometres and lanes of cells, an array of each, in each row of a table; none where no units are known."""
     import pandas
 
     if not units.cells:
         return {}
     rows = [units.cells.get(cell, {}) for cell in cells]
     kilometres = {name: numpy.array([row.get(name, numpy.nan) for row in rows], dtype=float) for name in ("from_km", "to_km")}
-    return {"road": numpy.array([row.get("road") for row in rows], dtype=object), **kilometres,
-            "lanes": pandas.array([row.get("lanes") for row in rows], dtype="Int64")}
+    lanes = numpy.array([row.get("lanes", 1) for row in rows], dtype=numpy.int64)
+    lacking = numpy.array(["lanes" not in row for row in rows], dtype=bool)
+    return {"road": _by_column(numpy.array([row.get("road") for row in rows], dtype=object), shape),
+            **{name: _by_column(values, shape) for name, values in kilometres.items()},
+            "lanes": pandas.arrays.IntegerArray(_by_column(lanes, shape), _by_column(lacking, shape))}
+
+
+def _by_column(values: Any, shape: tuple[int, ...]) -> Any:
+    """What each column of a table has, for each of its values row behind row."""
+    return numpy.broadcast_to(values, shape).ravel()
+
+
+def _by_row(values: Any, shape: tuple[int, ...]) -> Any:
+    """What each row of a table has, for each of its values row behind row."""
+    return numpy.broadcast_to(values[:, None], shape).ravel()
 
 
 def _padded(values: Numbers) -> Numbers:
     """The values row behind row, rounded, with a row of none for the last recorded step."""
-    found: Numbers = numpy.full((len(values) + 1, values.shape[1]), numpy.nan)
+    found: Numbers = numpy.empty((len(values) + 1, values.shape[1]))
+    found[-1] = numpy.nan
     values.round(DIGITS, out=found[:-1])
     return found.ravel()
