@@ -21,11 +21,11 @@ from importlib import import_module
 from typing import TYPE_CHECKING, Any
 
 if TYPE_CHECKING:
-    from .library.detectors import diagram as diagram
-    from .library.detectors import read_detectors as read_detectors
+    from .library.importing import diagram as diagram
     from .library.importing import import_gmns as import_gmns
     from .library.importing import import_osm as import_osm
     from .library.importing import import_sumo as import_sumo
+    from .library.importing import read_detectors as read_detectors
     from .library.many import assign as assign
     from .library.many import calibrate as calibrate
     from .library.many import choose as choose
@@ -58,8 +58,7 @@ __version__ = "1.0"  # the program's, in launcher/words.table
 
 # The public names by where they are at home; each is loaded when it is first asked for.
 NAMES = {
-    "library.detectors": ("diagram", "read_detectors"),
-    "library.importing": ("import_gmns", "import_osm", "import_sumo"),
+    "library.importing": ("diagram", "import_gmns", "import_osm", "import_sumo", "read_detectors"),
     "library.many": ("assign", "calibrate", "choose", "draw", "optimise", "sweep"),
     "library.pictures": ("page", "plot"),
     "library.report": ("Report", "read_report"),

@@ -13,8 +13,7 @@ from typing import Any, NoReturn
 import click
 
 from . import __version__
-from .commands.ending import PROGRAM, answer, need_streams, say
-from .commands.telling import note, tell
+from .commands.telling import PROGRAM, answer, need_streams, note, say, tell
 from .files.unpacking import DEFAULT, MOST, OPTION
 from .problem import Interrupted
 from .program.calls import NEWS, documents, found_program, keep_folders_from_root

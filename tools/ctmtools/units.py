@@ -10,7 +10,7 @@ from pathlib import Path
 from typing import Any, TypeVar
 
 from .files import schema
-from .files.kinds import SUFFIX
+from .files.reading import SUFFIX
 from .files.seals import KEY, broken, is_sealed, sealed
 from .problem import Problem
 from .texts.quantities import DAY

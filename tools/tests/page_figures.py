@@ -15,7 +15,7 @@ from types import SimpleNamespace as Some
 
 from crates import Crates
 from ctmtools.report.queues import SLOW, queues_in
-from ctmtools.study.gap_kinds import KINDS
+from ctmtools.study.precedences import KINDS
 from ctmtools.study.reading import read_values
 from parts import processor_seconds
 

@@ -13,11 +13,10 @@ import ctmtools
 import pytest
 
 from ctmtools import build, read_study
-from ctmtools.detectors.names import station_and_quantity
+from ctmtools.detectors.formats import station_and_quantity
 from ctmtools.detectors.table import text_of
-from ctmtools.files.kinds import kind_of
 from ctmtools.imports.sumo_net import check_root, read_xml
-from ctmtools.files.reading import read_bytes
+from ctmtools.files.reading import kind_of, read_bytes
 from ctmtools.problem import Problem
 from ctmtools.files.unpacking import MOST
 

@@ -4,7 +4,7 @@ import plain_model
 import pytest
 
 from ctmtools import build, read_study
-from ctmtools.moments.runner import Runner
+from ctmtools.moments.moment import Runner
 
 from .examples import EXAMPLES
 

@@ -9,8 +9,8 @@ import pytest
 from ctmtools import Problem, run
 from ctmtools.calibration import fitting
 from ctmtools.calibration.diagram import fit, read_states
-from ctmtools.calibration.fitting import Calibration, by_place, distance, fitted, geh, range_of
-from ctmtools.calibration.nearest import Reach, around, descend, starts, width_of
+from ctmtools.calibration.fitting import (Calibration, Reach, around, by_place, descend, distance, fitted, geh, range_of,
+    starts, width_of)
 from ctmtools.calibration.observed import modelled, read_observed
 from ctmtools.many_runs import workers
 

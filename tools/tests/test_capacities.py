@@ -4,7 +4,7 @@ from fractions import Fraction
 
 import pytest
 
-from ctmtools.study.capacities import Change, flow_left, lanes_left, least, most_opened, spans
+from ctmtools.study.limits import Change, flow_left, lanes_left, least, most_opened, spans
 from ctmtools.study.plan import Section
 
 from .corridor import HEAD, corridor

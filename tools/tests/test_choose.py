@@ -6,8 +6,7 @@ from fractions import Fraction
 import pandas
 import pytest
 
-from ctmtools.plans.candidates import candidate, delays, question
-from ctmtools.plans.choosing import Choice
+from ctmtools.plans.choosing import Choice, candidate, delays, question
 from ctmtools.problem import Problem
 from ctmtools.runs.running import run
 from ctmtools.study.network_text import build

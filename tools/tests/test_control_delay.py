@@ -6,7 +6,7 @@ import pytest
 
 from ctmtools import read_study
 from ctmtools.runs.running import settled_by_runs
-from ctmtools.yielding.control_delay import at_roundabout, at_signal, at_stop
+from ctmtools.yielding.gaps import at_roundabout, at_signal, at_stop
 
 from .examples import EXAMPLES
 from .test_yield import CROSSING, PERMITTED, SIDE, write

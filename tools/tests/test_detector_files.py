@@ -7,8 +7,7 @@ import pytest
 from ctmtools import Problem
 from ctmtools.calibration import fitting
 from ctmtools.calibration.diagram import read_states
-from ctmtools.calibration.fitting import Calibration, Fitted, range_of
-from ctmtools.calibration.nearest import around
+from ctmtools.calibration.fitting import Calibration, Fitted, around, range_of
 from ctmtools.calibration.observed import modelled, read_observed
 
 from .corridor import HEAD, corridor

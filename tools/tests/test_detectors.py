@@ -12,7 +12,7 @@ from ctmtools import Problem, allow_files, build, read_detectors, read_study
 from ctmtools.calibration.observed import read_observed
 from ctmtools.detectors.options import wanted_by
 from ctmtools.detectors.days import STILL, hours_of, put_back
-from ctmtools.detectors.names import Quantity, quantity_of, station_and_quantity
+from ctmtools.detectors.formats import Quantity, quantity_of, station_and_quantity
 
 from .corridor import corridor
 from .detector_formats import DAYS, STATIONS, clock, counts, made, pems, rows, write_all

@@ -8,7 +8,7 @@ import pandas
 import pytest
 
 from ctmtools import Problem, read_detectors
-from ctmtools.detectors.missing import _places
+from ctmtools.detectors.reading import _places
 
 HEAD = "station,time,count\n"
 ROW = "a,2019-12-04 06:00,30\n"

@@ -13,7 +13,7 @@ import pytest
 from ctmtools import Problem, build, draw, read_study, run
 from ctmtools.many_runs.kept_rows import KeptValues
 from ctmtools.many_runs.task import study
-from ctmtools.plans.candidates import candidate, judged
+from ctmtools.plans.choosing import candidate, judged
 from ctmtools.plots import draws
 from ctmtools.study.network_text import BuiltOnce
 from ctmtools.study.plan import Closure, RoadPart

@@ -11,9 +11,8 @@ from ctmtools.pages.tables import greens_of
 from ctmtools.report.reading import read_report
 from ctmtools.runs.running import opened
 from ctmtools.study.network_text import build
-from ctmtools.yielding.control_delay import at_signal
-from ctmtools.yielding.fixed_greens import waits_at_greens
-from ctmtools.yielding.lane_groups import lane_groups
+from ctmtools.yielding.gaps import at_signal
+from ctmtools.yielding.fixed_greens import lane_groups, waits_at_greens
 
 from .test_yield import LANE, recorded, write
 

@@ -6,7 +6,7 @@ from fractions import Fraction
 import pytest
 
 from ctmtools import read_study
-from ctmtools.study.gap_kinds import KINDS
+from ctmtools.study.precedences import KINDS
 
 from .examples import TOOLS
 from .test_yield import CROSSING, write

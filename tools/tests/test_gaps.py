@@ -5,7 +5,7 @@ from types import SimpleNamespace
 
 import pytest
 
-from ctmtools.study.gap_kinds import KINDS
+from ctmtools.study.precedences import KINDS
 from ctmtools.study.plan import Gaps, Permission
 from ctmtools.yielding.gaps import harders, in_two_stages, passing, siegloch
 from ctmtools.yielding.permitted import InLane, Opposing, PermittedGreen, in_span

@@ -15,7 +15,7 @@ BASE = {"arrays", "problem", "visible"}  # which all may import
 PACKAGES = sorted(path.name for path in ROOT.iterdir() if path.is_dir() and path.name != "__pycache__")
 FILES = {path: ast.parse(path.read_text()) for path in sorted(ROOT.rglob("*.py"))}
 MOST_ARGUMENTS, MOST_FILES = 6, 10
-MOST_MODULES, LEAST_LINES = 281, 23
+MOST_MODULES, LEAST_LINES = 260, 23
 
 
 def unit_of(path: Path) -> str:

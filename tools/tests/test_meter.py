@@ -5,7 +5,7 @@ import csv
 import pytest
 
 from ctmtools import Problem, read_report
-from ctmtools.moments.runner import Runner, rows_of
+from ctmtools.moments.moment import Runner, rows_of
 from ctmtools.moments.metering import alinea, gauge_of, meter
 from ctmtools.study.plan import Meter
 

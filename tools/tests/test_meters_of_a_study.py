@@ -3,7 +3,7 @@
 import pytest
 
 from ctmtools import Problem
-from ctmtools.moments.runner import Runner
+from ctmtools.moments.moment import Runner
 from ctmtools.moments.metering import Metering, gauge_of
 from ctmtools.study.plan import Meter
 

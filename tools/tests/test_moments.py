@@ -5,8 +5,7 @@ import pytest
 
 from ctmtools import Problem
 from ctmtools.moments.agreement import difference
-from ctmtools.moments.runner import Runner, rows_of
-from ctmtools.moments.moment import Moment, Row, moment_of
+from ctmtools.moments.moment import Moment, Row, Runner, moment_of, rows_of
 from ctmtools.network_file.records import with_steps
 from ctmtools.network_file.kinds import record
 from ctmtools.network_file.naming import Naming

@@ -6,7 +6,7 @@ from pathlib import Path
 
 import pytest
 
-from ctmtools.plans.candidates import candidate
+from ctmtools.plans.choosing import candidate
 from ctmtools.plans.searching import Search, Tried, moved_to
 from ctmtools.plans.timing import Timing
 from ctmtools.problem import Problem

@@ -6,7 +6,7 @@ import pytest
 from ctmtools import Problem, build, read_study
 from ctmtools.runs.running import opened
 from ctmtools.study.pocket_roads import cut_at
-from ctmtools.yielding.shared_lanes import SharedLanes, longest_queue
+from ctmtools.yielding.conflicts import SharedLanes, longest_queue
 
 from .plain_reports import reported
 

@@ -9,8 +9,7 @@ from ctmtools.network_file.network import network_of
 from ctmtools.runs.arrivals import Draw, at_random, lanes_giving_way
 from ctmtools.runs.running import opened
 from ctmtools.uncertainty.seeds import parts_of, seeded
-from ctmtools.yielding.control_delay import at_signal, at_stop
-from ctmtools.yielding.gaps import harders
+from ctmtools.yielding.gaps import at_signal, at_stop, harders
 
 NETWORK = b"""ctm,1
 steps,3600

@@ -3,7 +3,7 @@
 import pytest
 
 from ctmtools.problem import Problem
-from ctmtools.study.slips import slip_hint
+from ctmtools.study.reading import slip_hint
 
 from .corridor import HEAD, corridor
 

@@ -15,7 +15,7 @@ from ctmtools.assignment.assigning import Assignment
 from ctmtools.exports.geojson import features
 from ctmtools.moments.agreement import difference
 from ctmtools.moments.metering import critical, gauge_of
-from ctmtools.moments.runner import Runner
+from ctmtools.moments.moment import Runner
 from ctmtools.network_file.faults import first_fault
 from ctmtools.network_file.kinds import NUMBERS
 from ctmtools.network_file.naming import Naming

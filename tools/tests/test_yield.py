@@ -13,8 +13,7 @@ from ctmtools.program.calls import ask
 from ctmtools.report.queues import queues_in
 from ctmtools.runs.running import run, settled_by_runs
 from ctmtools.study.network_text import Builder
-from ctmtools.yielding.conflicts import flow_of
-from ctmtools.yielding.shared_lanes import SharedLanes
+from ctmtools.yielding.conflicts import SharedLanes, flow_of
 from ctmtools.yielding.yielding import Yielding
 
 from .examples import EXAMPLES

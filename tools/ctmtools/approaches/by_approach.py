@@ -15,8 +15,7 @@ from ..report.measures import hour_of
 from ..report.reading import Report
 from ..report.states import times
 from ..texts.quantities import HOUR
-from .capacity import Passing
-from .stages import METRES, Stages
+from .capacity import METRES, Passing, Stages
 
 # The most s of control delay of each level of service: at signals, and where vehicles give way (HCM 2010, chapters 18, 19 and 21).
 AT_SIGNALS = (("A", 10), ("B", 20), ("C", 35), ("D", 55), ("E", 80))

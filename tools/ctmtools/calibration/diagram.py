@@ -11,8 +11,7 @@ import pandas
 
 from ..arrays import Numbers
 from ..detectors.file_set import paths_of
-from ..detectors.formats import BEGINS_WITH_TIME
-from ..detectors.names import TIMES, plain
+from ..detectors.formats import BEGINS_WITH_TIME, TIMES, plain
 from ..detectors.options import Wanted
 from ..detectors.reading import read
 from ..detectors.table import Source, counted, source_of

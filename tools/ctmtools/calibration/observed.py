@@ -10,8 +10,7 @@ import numpy
 import pandas
 
 from ..detectors.file_set import paths_of
-from ..detectors.formats import needed
-from ..detectors.names import plain
+from ..detectors.formats import needed, plain
 from ..detectors.numbers import by_text, numbers
 from ..detectors.options import Wanted
 from ..detectors.reading import read

@@ -30,11 +30,9 @@ from ..study.trips import part_of_drivers
 from ..texts.cells import frame_text
 from ..texts.quantities import exact
 from ..texts.text_table import table
-from .ending import NOTHING, stopping
-from .options import ALLOW_FILES, Finite
-from .output import FORCE
+from .options import ALLOW_FILES, FORCE, Finite
 from .progress import bar
-from .telling import tell
+from .telling import NOTHING, stopping, tell
 
 COLUMNS = ("informed", *MEASURES, "error")  # of the table of several shares
 

@@ -12,7 +12,7 @@ from ..moments.moment import read_moment
 from ..report.comparability import mismatches
 from ..report.comparing import side_by_side
 from ..report.summary import number_text
-from ..runs.futures import futures_of, reports_of
+from ..runs.stretches import futures_of, reports_of
 from ..texts.text_table import table
 from ..units import Units
 from .compare import signed

@@ -10,8 +10,7 @@ from ..study.network_text import build
 from ..study.reading import read_scenario
 from ..units import units_path
 from ..yielding.fixed_greens import note_losses
-from .options import ALLOW_FILES
-from .output import FORCE
+from .options import ALLOW_FILES, FORCE
 from .telling import tell
 
 EPILOG = """\b

@@ -16,11 +16,9 @@ from ..report.summary import number_text
 from ..study.reading import read_scenario
 from ..texts.text_table import table
 from .detector_options import detector_options
-from .ending import after, stopping
-from .options import ALLOW_FILES
-from .output import FORCE, OUTPUT_FILE
+from .options import ALLOW_FILES, FORCE, OUTPUT_FILE
 from .progress import bar
-from .telling import tell
+from .telling import after, stopping, tell
 from .travel_time import figure
 
 EPILOG = """\b

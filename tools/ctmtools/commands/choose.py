@@ -16,12 +16,10 @@ from ..report.summary import number_text
 from ..study.messages import warned_before_runs
 from ..texts.cells import frame_text
 from ..texts.text_table import table
-from .ending import left, stopping
-from .options import ALLOW_FILES, ROWS, VARIED
-from .output import FORCE, OUTPUT_FILE
+from .options import ALLOW_FILES, FORCE, OUTPUT_FILE, ROWS, VARIED
 from .progress import bar
 from .sweep import rest_lines, rounded_in_all
-from .telling import tell
+from .telling import left, stopping, tell
 
 if TYPE_CHECKING:
     import pandas

@@ -18,8 +18,7 @@ from ..report.summary import number_text
 from ..texts.cells import frame_text
 from ..texts.text_table import table
 from ..yielding.fixed_greens import lost_at_random
-from .options import Finite, on_reports
-from .output import FORCE, OUTPUT_FILE
+from .options import FORCE, OUTPUT_FILE, Finite, on_reports
 from .telling import tell
 
 if TYPE_CHECKING:

@@ -14,8 +14,7 @@ from ..files.writing import write
 from ..problem import Problem
 from ..texts.text_table import table
 from .detector_options import detector_options
-from .options import Finite
-from .output import FORCE, OUTPUT_FILE
+from .options import FORCE, OUTPUT_FILE, Finite
 from .telling import tell
 
 EPILOG = """\b

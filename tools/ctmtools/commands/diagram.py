@@ -12,8 +12,7 @@ from ..detectors.options import StationOptions, wanted_by
 from ..files.written_over import guard_output
 from ..problem import Problem
 from .detector_options import detector_options
-from .options import Finite
-from .output import FORCE, OUTPUT_FILE
+from .options import FORCE, OUTPUT_FILE, Finite
 from .telling import tell
 
 EPILOG = """\b

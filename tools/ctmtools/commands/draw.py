@@ -17,11 +17,9 @@ from ..uncertainty.messages import HEADS, compared_lines, plan_lines, spread_row
 from ..uncertainty.reliability import within
 from ..uncertainty.results import Draws, results_of, write_results
 from ..uncertainty.task import Asked
-from .ending import left, stopping
-from .options import ALLOW_FILES, CLUSTER, EVERY, JOBS
-from .output import FORCE, guard_folder_of
+from .options import ALLOW_FILES, CLUSTER, EVERY, FORCE, JOBS, guard_folder_of
 from .progress import bar
-from .telling import tell
+from .telling import left, stopping, tell
 
 EPILOG = """\b
 Examples:

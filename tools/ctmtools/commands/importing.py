@@ -8,8 +8,7 @@ import click
 
 from ..imports.importing import (GMNS, HEADWAYS, OSM, SUMO, WITHOUT_DISTRICTS, ImportOptions, OsmOptions, SumoOptions, from_gmns, from_osm,
                                  from_sumo)
-from .options import ALLOW_FILES, Finite
-from .output import FORCE, OUTPUT_FILE
+from .options import ALLOW_FILES, FORCE, OUTPUT_FILE, Finite
 from .telling import tell
 
 EPILOG = """\b

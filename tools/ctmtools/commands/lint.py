@@ -4,9 +4,8 @@ from __future__ import annotations
 
 import click
 
-from ..files.kinds import read_as
-from ..network_file.examining import examine
-from ..network_file.warnings import shortened
+from ..files.reading import read_as
+from ..network_file.warnings import examine, shortened
 from ..units import read_units, units_path
 from .telling import note, tell
 

@@ -29,8 +29,7 @@ from ..texts.text_table import table
 from ..units import units_path
 from .branch import beside_each_other
 from .compare import signed
-from .options import ALLOW_FILES, Finite
-from .output import FORCE, OUTPUT_FILE
+from .options import ALLOW_FILES, FORCE, OUTPUT_FILE, Finite
 from .progress import bar
 from .telling import note, tell
 

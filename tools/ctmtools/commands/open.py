@@ -9,8 +9,7 @@ from pathlib import Path
 
 import click
 
-from ..files.kinds import kind_of
-from ..files.reading import read_bytes
+from ..files.reading import kind_of, read_bytes
 from ..files.writing import write
 from ..live.session import Session, read_text
 from ..problem import Interrupted, Problem

@@ -19,11 +19,9 @@ from ..study.reading import read_values
 from ..sweeps.sweeping import measure
 from ..texts.quantities import duration, exact
 from ..texts.text_table import table
-from .ending import after, stopping
-from .options import ALLOW_FILES
-from .output import FORCE, guard_folder_of
+from .options import ALLOW_FILES, FORCE, guard_folder_of
 from .progress import bar
-from .telling import tell
+from .telling import after, stopping, tell
 
 EPILOG = """\b
 Examples:

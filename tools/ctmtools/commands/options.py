@@ -1,12 +1,15 @@
-"""Options that several commands have: of studies, of reports, of many runs."""
+"""Options that several commands have: of studies, of reports, of many runs, and of the files that they write."""
 
 from __future__ import annotations
 
 from collections.abc import Callable
 from math import isfinite
+from pathlib import Path
 from typing import Any
 
 import click
+
+from ..files.written_over import FORCED, guard_output
 
 VARIED = click.option("--vary", "varied", metavar="KEY=VALUES", multiple=True, required=True,
                       help="A key and its values; may be given again.")
@@ -48,3 +51,31 @@ class Finite(click.FloatRange):
         if not isfinite(number):
             self.fail(f"{value!r} is not a finite number.", param, ctx)
         return number
+
+
+class OutputFile(click.Path):
+    """A file that is written: nothing is written over that isn't of its sort, where that isn't forced."""
+
+    def convert(self, value: Any, param: click.Parameter | None, ctx: click.Context | None) -> Any:
+        """The path, which is looked at before anything is worked out."""
+        path = super().convert(value, param, ctx)
+        if ctx is None or not ctx.resilient_parsing:
+            guard_output(path)
+        return path
+
+
+OUTPUT_FILE = OutputFile()
+
+
+def guard_folder_of(folder: Path, *names: str) -> None:
+    """Refuses a folder in which files of others have the names of those that a command writes there."""
+    for name in names:
+        guard_output(folder / name)
+
+
+def _force(context: click.Context, _: click.Parameter, forced: bool) -> None:
+    FORCED.set(forced and not context.resilient_parsing)
+
+
+FORCE = click.option("--force", is_flag=True, is_eager=True, expose_value=False, callback=_force,
+                     help="Write over files that stand there, whatever they are.")

@@ -8,8 +8,7 @@ import click
 
 from ..files.written_over import guard_output
 from ..report.reading import read_report
-from .options import Command, Finite, on_reports
-from .output import FORCE, OUTPUT_FILE
+from .options import FORCE, OUTPUT_FILE, Command, Finite, on_reports
 from .telling import tell
 
 EPILOG = """\b

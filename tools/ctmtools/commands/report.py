@@ -10,8 +10,7 @@ from ..files.writing import write
 from ..files.written_over import guard_output
 from ..problem import Problem
 from ..report.reading import read_report
-from .options import on_reports
-from .output import FORCE, OUTPUT_FILE
+from .options import FORCE, OUTPUT_FILE, on_reports
 from .telling import tell
 
 EPILOG = """\b

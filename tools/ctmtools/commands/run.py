@@ -18,8 +18,7 @@ from ..runs.running import Prepared, estimated, opened, placed, run_into
 from ..runs.stretches import kept_moment, kept_path, run_in_stretches, runner_of, stretch_of
 from ..units import units_path
 from ..yielding.messages import green_lines
-from .options import ALLOW_FILES
-from .output import FORCE
+from .options import ALLOW_FILES, FORCE
 from .progress import bar, lasting
 from .telling import note, tell
 

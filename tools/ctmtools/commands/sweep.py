@@ -15,11 +15,9 @@ from ..report.summary import kilometre, number_text
 from ..sweeps.sweeping import Sweep
 from ..texts.cells import frame_text
 from ..texts.text_table import table
-from .ending import left, stopping
-from .options import ALLOW_FILES, CLUSTER, EVERY, JOBS, ROWS, VARIED
-from .output import FORCE, guard_folder_of
+from .options import ALLOW_FILES, CLUSTER, EVERY, FORCE, JOBS, ROWS, VARIED, guard_folder_of
 from .progress import bar
-from .telling import tell
+from .telling import left, stopping, tell
 from .travel_time import figure
 
 if TYPE_CHECKING:

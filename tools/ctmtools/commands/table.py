@@ -15,8 +15,7 @@ from ..report.states import states, totals
 from ..texts.cells import frame_text
 from ..texts.quantities import duration
 from ..yielding.fixed_greens import by_lane_group
-from .options import Finite, on_reports
-from .output import FORCE, OUTPUT_FILE
+from .options import FORCE, OUTPUT_FILE, Finite, on_reports
 from .telling import put, tell
 
 if TYPE_CHECKING:

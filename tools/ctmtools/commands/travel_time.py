@@ -14,8 +14,7 @@ from ..report.travel import chain_of, travel_times
 from ..texts.cells import frame_text
 from ..texts.quantities import duration
 from ..texts.text_table import table
-from .options import on_reports
-from .output import FORCE, OUTPUT_FILE
+from .options import FORCE, OUTPUT_FILE, on_reports
 from .telling import tell
 
 if TYPE_CHECKING:

@@ -14,8 +14,8 @@ from ..problem import Problem
 from ..texts.cells import unguarded
 from ..visible import visible
 from .clocks import Clocks, clocks_of, moment
-from .formats import LONG, PEMS, PEMS_FIRST, PEMS_LANE, Column, Format, format_of
-from .names import HOURLY, OCCUPANCIES, SECONDS, SHARE, SPEEDS, plain
+from .formats import (HOURLY, LONG, OCCUPANCIES, PEMS, PEMS_FIRST, PEMS_LANE, SECONDS, SHARE, SPEEDS, Column, Format, format_of,
+    plain)
 from .numbers import by_text, numbers
 from .options import Wanted
 from .table import Source, counted, named, source_of

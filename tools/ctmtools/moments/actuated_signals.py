@@ -26,8 +26,7 @@ from ..study.network_text import FIXED, Built
 from ..study.plan import ActuatedJunction, ActuatedPhase, StopLine, Scenario
 from ..texts.amounts import PARTS
 from ..units import cell_of
-from .moment import Moment, kept_state, state_text
-from .runner import Runner
+from .moment import Moment, Runner, kept_state, state_text
 
 KEPT = ".actuated.json"  # the ending of what is kept of greens that aren't done
 KEPT_EACH = 2.0  # seconds

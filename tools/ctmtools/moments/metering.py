@@ -30,8 +30,7 @@ from ..texts.amounts import PARTS, rounded_parts
 from ..texts.quantities import HOUR
 from ..units import Units
 from .agreement import Plan, last_of, plan_of
-from .moment import Moment, kept_state, state_text
-from .runner import Runner
+from .moment import Moment, Runner, kept_state, state_text
 
 
 @dataclass

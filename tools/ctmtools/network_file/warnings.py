@@ -1,20 +1,26 @@
-"""What no refusal covers, and what an engineer would still want to know of a network."""
+"""A network file examined: what the program says of it, the first fault explained, and what no refusal covers as warnings."""
 
 from __future__ import annotations
 
 from collections.abc import Collection, Iterable, Iterator, Mapping, Sequence
-from dataclasses import dataclass
+from dataclasses import dataclass, field
 
+from ..problem import Problem
+from ..program.calls import News, ask, why
 from ..texts.amounts import PARTS
-from ..units import Units
-from .kinds import Record
+from ..units import Units, units_path
+from .checksums import check_network
+from .faults import Fault, first_fault
+from .kinds import NUMBERS, Record
 from .naming import Naming
-from .network import Network
+from .network import Network, clipped, fault_line, network_of
+from .records import FileRecord, line_of, read_records, text_of_line
 
 FAR_ABOVE = 2  # a demand is far above a gate's capacity from this many times it on
 RANGED = ("demand", "limit", "turn", "speed")  # the kinds of records that are of some steps
 SUPPOSED_STEP = 10  # seconds, in a warning's example where the step isn't known
 MOST_OF_A_KIND = 5  # of each kind of warning so many are told, and the others counted
+MOST_SHOWN = 100  # letters of a line of the file
 
 
 @dataclass(frozen=True)
@@ -227,3 +233,38 @@ def _never_green(network: Network, naming: Naming) -> Iterator[Warning]:
             yield Warning("signals that are never green", network.line(number),
                           f"the signal of {cell} is green in no step of the run: its cycle of {naming.lasting(cycle)} "
                           f"is longer than {whole}")
+
+
+@dataclass
+class Findings:
+    """What was found: the program's own line, the fault in one line with the line of the file, or the warnings."""
+
+    answer: str
+    fault: str = ""
+    shown: str = ""
+    warnings: list[Warning] = field(default_factory=list)
+
+
+def examine(content: bytes, name: str, news: News | None = None, units: Units | None = None) -> Findings:
+    """The findings on the bytes of a network file; `units` are those of the network, where they are known."""
+    answer = ask(("check",), content, news=news)
+    if answer.status == 0:
+        network = network_of(content, name)
+        check_network(network, units or Units(), name, units_path(name))
+        return Findings(answer.out.decode().strip(), warnings=warnings_of(network, units))
+    if answer.status != 3:
+        raise Problem(f"{name}: {why(answer)}")
+    records = read_records(content)
+    fault = first_fault(records)
+    own = f"ctm: network: record {fault.record} code {NUMBERS[fault.code]} {fault.code}" if fault else "no fault"
+    if fault is None or own != answer.line:
+        raise Problem(f"{name}: {answer.line}; these tools find {own}, so no hint can be given")
+    return Findings(answer.line, fault_line(content, records, fault), _shown(content, records, fault))
+
+
+def _shown(content: bytes, records: Sequence[FileRecord], fault: Fault) -> str:
+    """The line of the file that the fault stands in, as far as it goes on a screen."""
+    if fault.record > len(records):
+        return ""
+    line = line_of(content, records[fault.record - 1].place)
+    return f"{line:6d} | {clipped(text_of_line(content, line).expandtabs(2), MOST_SHOWN)}"

@@ -23,7 +23,7 @@ from ..study.keys import counted_demands, names_of
 from ..study.reading import scenario_of
 from ..study.study import StudySource, study_from
 from ..study.writing import study_text
-from .candidates import MOST_PLANS, candidate, judged
+from .choosing import MOST_PLANS, candidate, judged
 from .timing import Point, Timing
 
 FILE, BEST = "tried.csv", "best.toml"

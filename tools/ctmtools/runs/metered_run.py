@@ -9,7 +9,7 @@ from typing import TYPE_CHECKING
 
 
 from ..moments.metering import Gauge, Metered, gauge_of, intervals, meter
-from ..moments.runner import Runner
+from ..moments.moment import Runner
 from ..problem import Problem
 from ..program.calls import News
 from ..report.reading import Report

@@ -9,10 +9,10 @@ from collections.abc import Callable, Sequence
 from pathlib import Path
 from typing import TypedDict, Unpack
 
-from ..files.kinds import read_as
+from ..files.reading import read_as
 from ..files.writing import beside, write
 from ..moments.actuated_signals import ActuatedSignals
-from ..moments.runner import Runner
+from ..moments.moment import Runner
 from ..network_file.checksums import checksum, marked, units_of
 from ..network_file.network import Network, network_of
 from ..network_file.records import with_steps

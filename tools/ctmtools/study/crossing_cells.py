@@ -16,7 +16,7 @@ from ..network_file.faults import NAME
 from ..problem import Problem
 from ..texts.quantities import HOUR
 from .crossings import green, stop_line
-from .lane_use import LaneUse
+from .approaches import LaneUse
 from .plan import (ActuatedJunction, ActuatedPhase, Crossing, Diverge, Matrix, Merge, Permission, Precedence, Road, Section,
                    Signal, Stream, Scenario, Turn, Movement, Yield)
 from .movements import movement_name, movement_road, movements

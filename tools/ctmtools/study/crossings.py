@@ -10,10 +10,9 @@ from ..problem import Problem
 from ..texts.quantities import duration, not_negative, shown, word
 from .entries import Entries, Reader, list_of
 from .plan import Actuation, Crossing, Matrix, Movement, Phase
-from .pockets import check_pockets, flare, pocket
 from .precedences import check_precedence, precedence
 from .times import Times
-from .movements import movement_name, movement_road, movements, taken_movements
+from .movements import check_pockets, flare, movement_name, movement_road, movements, pocket, taken_movements
 
 MOST_ARMS = 16
 _weight = not_negative("a number here")  # a share, a priority, or lanes

@@ -1,18 +1,28 @@
-"""Who gives way to whom, as a study file says it of junctions, merges and on-ramps."""
+"""Who gives way to whom, as a study file says it of junctions, merges and on-ramps, and the gaps that drivers take, by kind.
+
+Of a two-way stop: Highway Capacity Manual 2010, chapter 19 (2016: chapter 20), base critical and follow-up headways by the lanes
+of the street with priority, without heavy vehicles and on level ground. Of a left turn at a green light: the same, chapter 31
+(the supplement on signals), from a lane of its own. Of a roundabout: the same, 2016, chapter 22, an entry of one lane against one
+lane, whose `1,380·exp(-0.00102·v)` is Siegloch's formula with the gaps below. Each kind has the formula by which its gaps were
+estimated, since gaps of one are wrong in the other: Harders' and Siegloch's, both in ctmtools.yielding.gaps. The manual's tables are
+from memory, as no copy of it was at hand.
+"""
 
 from __future__ import annotations
 
-from dataclasses import replace
+from dataclasses import dataclass, replace
 from fractions import Fraction
 from typing import Any
 
 from ..problem import Problem
 from ..texts.quantities import duration, number, shown, whole, word
 from .entries import Entries, list_of
-from .gap_kinds import A_STAGE, KINDS, THREE_LEGS, GapKind
-from .plan import Crossing, Gaps, Merge, Movement, Precedence, Scenario, Stream, Yield
 from .movements import movement_name, movement_of, taken_movements
+from .plan import Crossing, Gaps, Merge, Movement, Precedence, Scenario, Stream, Yield
 
+HARDERS, SIEGLOCH = "harders", "siegloch"
+THREE_LEGS = Fraction("0.7")  # s by which a left turn's critical gap is less where nobody comes from ahead
+A_STAGE = Fraction(1)  # s by which the critical gap of each stage is less than that of both at once
 SNEAKERS = Fraction(2)  # vehicles that turn at the end of a green, HCM 2010, chapter 31
 CONTROLS = ("stop", "give_way")
 MERGE_KIND = "minor-right"
@@ -20,6 +30,29 @@ OF_SIGNS, OF_GREENS = ("median", "first", "stage_gap"), ("sneakers",)  # keys of
 OF_GAPS = ("kind", "priority_lanes", "legs", "critical_gap", "follow_up", "control")
 MOST_IN_MEDIAN, MOST_SNEAKERS, MOST_PART = 20, 20, 10
 LEAST_FOLLOW_UP, MOST_GAP = Fraction(1, 10), 3600  # s
+
+
+@dataclass(frozen=True)
+class GapKind:
+    """The critical and the follow-up gap in s by the lanes of the street with priority, and the formula they go with."""
+
+    critical: dict[int, Fraction]
+    follow_up: dict[int, Fraction]
+    formula: str = HARDERS
+
+
+def _by_lanes(two: str, four: str, six: str) -> dict[int, Fraction]:
+    return {2: Fraction(two), 4: Fraction(four), 6: Fraction(six)}
+
+
+KINDS = {
+    "major-left": GapKind(_by_lanes("4.1", "4.1", "5.3"), _by_lanes("2.2", "2.2", "3.1")),
+    "minor-right": GapKind(_by_lanes("6.2", "6.9", "7.1"), _by_lanes("3.3", "3.3", "3.9")),
+    "minor-through": GapKind(_by_lanes("6.5", "6.5", "6.5"), _by_lanes("4.0", "4.0", "4.0")),
+    "minor-left": GapKind(_by_lanes("7.1", "7.5", "6.4"), _by_lanes("3.5", "3.5", "3.8")),
+    "permitted-left": GapKind(_by_lanes("4.5", "4.5", "4.5"), _by_lanes("2.5", "2.5", "2.5")),
+    "roundabout": GapKind(_by_lanes("4.976", "4.976", "4.976"), _by_lanes("2.609", "2.609", "2.609"), SIEGLOCH),
+}
 
 
 def precedence(table: Entries, found: Crossing) -> Precedence:

@@ -1,4 +1,4 @@
-"""From a study file, TOML, to the study: every key known, every value in its unit."""
+"""From a study file, TOML, to the study: every key known, every value in its unit, and a hint for each sort of slip in TOML."""
 
 from __future__ import annotations
 
@@ -9,7 +9,7 @@ from fractions import Fraction
 from pathlib import Path
 from typing import Any, TypedDict
 
-from ..files.kinds import read_as
+from ..files.reading import read_as
 from ..problem import Problem, one_line
 from ..texts.quantities import DAY, clock, day, density, duration, exact, flow, lanes, length, number, shown, speed, whole, word
 from ..visible import visible
@@ -17,12 +17,10 @@ from .coordinates import check_degrees, code, flat
 from .crossing_cells import expanded
 from .crossings import actuation_of, crossing
 from .entries import Entries, Reader, list_of
-from .plan import (Closure, Diverge, Exit, Flow, Gate, Merge, Meter, Opening, Road, Section, Signal, SpeedLimit,
-                   Scenario, Turn)
+from .plan import Closure, Diverge, Exit, Flow, Gate, Merge, Meter, Opening, Road, Scenario, Section, Signal, SpeedLimit, Turn
 from .pocket_roads import with_pockets
 from .precedences import precedence_at_merge, with_merges
 from .signals import with_actuated_signals
-from .slips import slip_hint
 from .times import Period, Times, road_part
 from .trips import read_trips, with_demand
 from .uncertainty import uncertainty_of
@@ -31,6 +29,17 @@ LANE = ("free_flow_speed", "wave_speed", "jam_density", "saturation_flow")
 MOST_NAMES = 100  # of a key with points; for one the work of a reader of TOML grows with their square or their cube
 LONG_KEY = re.compile(rf"""(?<![\w-])(?:(?:[\w-]+|"[^"\n]*"|'[^'\n]*')[ \t]*\.[ \t]*){{{MOST_NAMES}}}""")
 BY_TIME = "a road has one free-flow speed of its own; say a number, and lower speeds by time as [[speed_limits]]"
+LINE = re.compile(r"\(at line ([0-9]+)")
+MOST = 1_000  # of the signs of a line that are looked at
+SLIPS = (
+    (re.compile(r"=[\[\s]*[0-9]+,[0-9]+\s*(#|$)"), "Is a decimal comma meant? Write a point."),
+    (re.compile(r"(=|\[|,)\s*[0-9]{1,2}:[0-9]{2}\b"), "Put a clock time in quotes, as \"06:30\"."),
+    (re.compile(r";\s*(#|$)"), "Take the semicolon away."),
+    (re.compile(r"=\s*[0-9.]+\s*[A-Za-z/%]+"), "Put a number with its unit in quotes, as \"500 m\"."),
+    (re.compile(r"=\s*[A-Za-z]"), "Put a text in quotes."),
+    (re.compile(r"^\s*[A-Za-z_.]+\s*:"), "A key and its value have an equals sign between them."),
+    (re.compile(r"^\s*(//|;|%)"), "A comment begins with #."),
+)
 
 
 class Joints(TypedDict):
@@ -382,3 +391,18 @@ def _meter(table: Entries, times: Times) -> Meter:
     if (meter.road is None) != (meter.at is None):
         raise Problem(f"{table.key('at')}: a detector has both road and at, or none of them")
     return meter
+
+
+def slip_hint(content: bytes, message: str) -> str:
+    """A hint on a fault that the reader of TOML tells of a line, with the line, or an empty text."""
+    if content.startswith(b"PK\x03\x04"):
+        return "; this is an Excel workbook or another archive"
+    found = LINE.search(message)
+    lines = content.decode("utf-8", "replace").splitlines()
+    if not found or int(found[1]) > len(lines):
+        return ""
+    line = lines[int(found[1]) - 1].strip()[:MOST]
+    hint = next((text for slip, text in SLIPS if slip.search(line)), "")
+    if "overwrite" in message or "twice" in message:
+        hint = "It stands above already; a key and a table stand once."
+    return f"; `{line[:60]}`. {hint}".rstrip()

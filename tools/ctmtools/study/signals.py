@@ -7,9 +7,8 @@ from dataclasses import dataclass, replace
 
 from ..network_file.kinds import Record, record
 from ..problem import Problem
-from .capacities import Change
 from .junctions import Junctions
-from .limits import Limits
+from .limits import Change, Limits
 from .plan import ActuatedJunction, ActuatedPhase, Scenario, Signal
 from .scale import Scale
 

@@ -8,7 +8,7 @@ from itertools import groupby
 
 from ..network_file.kinds import Record, record
 from ..problem import Problem
-from .capacities import Change, spans
+from .limits import Change, spans
 from .junctions import Junctions
 from .layout import RoadCell
 from .plan import Section, SpeedLimit, Scenario

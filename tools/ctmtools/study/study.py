@@ -11,7 +11,7 @@ from math import isfinite
 from pathlib import Path
 from typing import Any, TypedDict, Unpack
 
-from ..files.kinds import read_as
+from ..files.reading import read_as
 from ..problem import NoSuchKey, Problem
 from ..texts.quantities import TEXT, exact, shown
 from ..visible import visible

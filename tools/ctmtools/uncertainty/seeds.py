@@ -8,7 +8,7 @@ from collections.abc import Iterator
 import pandas
 
 from ..approaches.by_approach import by_approach
-from ..approaches.stages import Stages
+from ..approaches.capacity import Stages
 from ..report.by_road import by_road
 from ..report.reading import Report
 from ..report.routes import roads_and_gates

@@ -6,22 +6,24 @@ vehicles/h that come to it, and `c` that pass in its greens, each vehicle loses 
 
 from __future__ import annotations
 
-from collections.abc import Iterable, Sequence
+from collections.abc import Iterable, Iterator, Sequence
 from dataclasses import dataclass
 from typing import TYPE_CHECKING
 
 import numpy
 
 from ..arrays import Numbers
+from ..network_file.network import Network
 from ..report.reading import Report
+from ..study.crossings import stop_line
+from ..study.approaches import Group, LaneUse
+from ..study.movements import movement_name, movement_road, movements
 from ..study.network_text import Built
-from ..study.plan import Scenario
+from ..study.plan import Crossing, Scenario
 from ..texts.quantities import HOUR
-from ..units import AtRandom, LaneGroup, Loss
-from .conflicts import flow_of, total, whole_cycles
-from .control_delay import at_signal
-from .lane_groups import lane_groups
-from .shared_lanes import A_VEHICLE
+from ..units import AtRandom, LaneGroup, Loss, Units, cell_of
+from .conflicts import A_VEHICLE, flow_of, total, whole_cycles
+from .gaps import at_signal
 from .yielding import FULL
 
 if TYPE_CHECKING:
@@ -115,3 +117,35 @@ def _green_parts(signal: pandas.Series, limits: Iterable[tuple[int, int, float]]
         passing[begin:end] *= min(1.0, capacity / most)
     parts: Numbers = numpy.add.reduceat(passing, bounds[:-1].astype(int)) / numpy.diff(bounds)
     return parts
+
+
+def lane_groups(study: Scenario, network: Network, units: Units) -> list[LaneGroup]:
+    """The lane groups at the signals that a study's network has at all times, without those in which all give way."""
+    lines = network.cycles
+    free = [name for name in lines if name not in {cell_of(one.road, units) for one in study.yields}]
+    found, known = [], set()
+    for crossing in study.crossings:
+        if crossing.phases:
+            own = [cell_of(stop_line(crossing, way), units) for way in movements(crossing)]
+            known.update(own)
+            found += [group for group in _of_crossing(crossing, study, units) if group.line in lines]
+    step = units.step or 1.0
+    alone = [LaneGroup(name, name, [name], [name], network.capacities[name] * HOUR / step) for name in free if name not in known]
+    return found + alone
+
+
+def _of_crossing(crossing: Crossing, study: Scenario, units: Units) -> Iterator[LaneGroup]:
+    """The lane groups of a junction's approaches."""
+    for approach in range(len(crossing.sources)):
+        for group in LaneUse(crossing, approach, study.roads).groups():
+            yield _group(crossing, group, study, units)
+
+
+def _group(crossing: Crossing, group: Group, study: Scenario, units: Units) -> LaneGroup:
+    own = group.own
+    roads = [movement_road(crossing, way) for way in own]
+    section = study.roads[roads[0]].sections[0]
+    into = ", ".join(crossing.into[way[1]] for way in own)
+    name = movement_name(crossing, own[0]) if len(own) == 1 else f"{crossing.approach(own[0][0])} to {into}"
+    return LaneGroup(f"{crossing.place}, {name}", cell_of(stop_line(crossing, own[0]), units), [cell_of(road, units) for road in roads],
+                     [cell_of(movement_road(crossing, way), units) for way in group.loading], group.lanes * float(section.saturation_flow))

@@ -10,17 +10,15 @@ import numpy
 
 from ..arrays import Numbers
 from ..report.reading import Report
-from ..study.gap_kinds import SIEGLOCH
+from ..study.precedences import SIEGLOCH
 from ..study.network_text import Built
 from ..study.plan import Flow, Scenario, Yield
 from ..texts.amounts import PARTS, rounded_parts
 from ..texts.quantities import HOUR
 from ..units import Loss, cell_of
-from .conflicts import come_to, flow_of, own_flow, streams_of, total, whole_cycles
-from .control_delay import at_roundabout, at_signal, at_stop
-from .gaps import in_two_stages, passing
+from .conflicts import A_VEHICLE, SharedLanes, come_to, flow_of, own_flow, streams_of, total, whole_cycles
+from .gaps import at_roundabout, at_signal, at_stop, in_two_stages, passing
 from .permitted import ALONE, InLane, PermittedGreen, opposing_of
-from .shared_lanes import A_VEHICLE, SharedLanes
 
 A_PART = 0.01  # of a lane's time, below which nothing is left of it
 FULL = 0.99  # of what may pass, from which on a queue stands; what may pass is settled to a hundredth
