@@ -6,7 +6,9 @@ import pytest
 def test_the_first_call_builds_and_runs(repository):
     status, out, err = repository.call("2", given=b"a\n", command="ctm-wait")
     assert (status, out) == (0, "a\nby 2\n")
-    assert err.splitlines()[0].startswith("./ctm-wait: proving and building the program from 5 crates")
+    first, second, *_ = err.splitlines()
+    assert first.startswith("./ctm-wait: the program isn't built of the sources that stand here")
+    assert second.startswith("./ctm-wait: proving and building the program from 5 crates")
     assert "5 of 5: ctm_wait" in err
     assert repository.call("2", given=b"b\n", command="ctm-wait") == (0, "b\nby 2\n", "")
 
