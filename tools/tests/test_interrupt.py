@@ -100,7 +100,6 @@ CASES = {
     "optimise before its first run": (["optimise", EXAMPLES / "arterial-ten.toml", "--signals"], 1, "stopped; nothing is kept$"),
     "calibrate before its first run": (CALIBRATE, 1, "stopped; nothing is kept$"),
     "choose before its first run": (["choose", STREET, "--vary", "signals.offset=0:110:5"], 1, "stopped; nothing is kept$"),
-    "assign": (["assign", EXAMPLES / "bypass.toml"], 3, "stopped; nothing is kept of 1 round$"),
     "assign of several parts": (["assign", EXAMPLES / "bypass.toml", "--informed", "0,1", "-j", "1"], 3, "stopped; nothing is kept$"),
     "run of greens that follow traffic": (["run", "actuated.toml"], 12, "stopped; the same call goes on from the greens in actuated.actuated.json"),
     "meter": (["meter", EXAMPLES / "feedback.toml"], 12, "stopped; the same call goes on from the last interval"),

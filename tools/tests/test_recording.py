@@ -11,7 +11,7 @@ from ctmtools.program import calls as program
 from ctmtools.commands import progress
 from ctmtools.runs import running
 from ctmtools.command_line import main
-from ctmtools.moments import runner
+from ctmtools.moments import moment
 
 from .clusters import wait_until
 
@@ -76,9 +76,9 @@ def test_a_module_of_a_missing_package_names_the_package(monkeypatch, capsys, mi
 
 
 def test_a_program_without_a_mode_is_told(monkeypatch):
-    monkeypatch.setattr(runner, "in_words", lambda: "this one")
-    for status, line, told in ((2, runner.REFUSED, "this one has no mode save, so a run can't be saved"), (8, "ctm: why", "made: ctm: why")):
-        monkeypatch.setattr(runner, "ask", lambda *_, **__: program.Answer(status, b"", line.encode()))
+    monkeypatch.setattr(moment, "in_words", lambda: "this one")
+    for status, line, told in ((2, moment.REFUSED, "this one has no mode save, so a run can't be saved"), (8, "ctm: why", "made: ctm: why")):
+        monkeypatch.setattr(moment, "ask", lambda *_, **__: program.Answer(status, b"", line.encode()))
         with pytest.raises(Problem) as found:
-            runner.Runner("made")._ask(("save", "--until", "5"), b"")
+            moment.Runner("made")._ask(("save", "--until", "5"), b"")
         assert str(found.value).startswith(told)

@@ -1,24 +1,17 @@
 """The cases of bench/towns: how many there are, the manual's values by hand, and what the tools pass beside them."""
 
-import sys
 from collections import Counter
 
+import manual
 import pytest
-
-from .examples import TOOLS
+import town_cases
+import town_tools
 
 
 @pytest.fixture(scope="module")
 def bench():
-    """The modules of bench, which are imported from there."""
-    sys.path.insert(0, str(TOOLS.parent / "bench"))
-    try:
-        import manual
-        import town_cases
-        import town_tools
-        yield manual, {case.name: case for case in town_cases.CASES}, town_tools
-    finally:
-        sys.path.remove(str(TOOLS.parent / "bench"))
+    """The manual's formulas, the cases by name, and the tools' side of them."""
+    return manual, {case.name: case for case in town_cases.CASES}, town_tools
 
 
 def test_thirty_cases_of_all_kinds(bench):
