@@ -78,14 +78,23 @@ def permitted(towards, cycle, green, red=None):
     return gaps(towards, "permitted-left") * free / cycle + SNEAKERS * HOUR / cycle
 
 
-def permitted_in_lane(towards, part, cycle, green):
-    """What a lane passes of whom a part turn left, where all stand behind the first who turns until the others' queue is gone."""
+def in_lane(towards, part, cycle, green, flow):
+    """When and at what flow a lane passes of whom a part turn left: until the first of them comes, and when the others' queue is gone.
+
+    Between them all stand behind him. So many come to the lane; of 1 + part the last turn when the green ends.
+    """
+    turning = flow * part * cycle / HOUR  # in a cycle
+    first = max(0, green * exp(-0.860 * turning ** 0.629) - 2)
     lane = shared([(part, gaps(towards, "permitted-left")), (1 - part, SATURATION)])
-    at_end = (1 + part) * HOUR / cycle
-    passes = lane
-    for _ in range(50):
-        first = max(0, green * exp(-0.860 * (passes * part * cycle / HOUR) ** 0.629) - 2)
-        passes = (first * SATURATION + max(0, green - max(first, clears(towards, cycle - green))) * lane) / cycle + at_end
+    return first, max(first, clears(towards, cycle - green)), lane
+
+
+def permitted_in_lane(towards, part, cycle, green, flow=None):
+    """What a lane passes of whom a part turn left, where so many come to it, or by default as many as it passes."""
+    passes = flow or SATURATION * green / cycle
+    for _ in range(1 if flow else 50):
+        first, later, lane = in_lane(towards, part, cycle, green, passes)
+        passes = (first * SATURATION + max(0, green - later) * lane) / cycle + (1 + part) * HOUR / cycle
     return passes
 
 

@@ -3,8 +3,8 @@ from collections.abc import Callable
 from dataclasses import dataclass
 
 from arterials import Arterial
-from manual import (SATURATION, all_way, at_all_way, at_random, at_roundabout, at_signal, at_stop, both_free, clears, entry, even_queue, flared, gaps,
-                    permitted, permitted_in_lane, shared, uniform)
+from manual import (SATURATION, all_way, at_all_way, at_random, at_roundabout, at_signal, at_stop, both_free, clears, entry, even_queue, flared, gaps, in_lane,
+                    permitted, permitted_in_lane, shared)
 from sumo_streets import RED
 from town_junctions import Arm, Junction, Phase, Roundabout
 
@@ -16,7 +16,7 @@ SNEAKING = 4  # s at the end of a green in which two turn
 class Case:
     """A case: its name, what is built, the manual's capacity in vehicles/h and control delay in s where it has formulas.
 
-    With `at_random` the tools' delay is that of runs with arrivals at random, else the control delay of `table --by movement`. Where what
+    `delay_of` is the delay by the same formula if so many pass. With `at_random` the tools' delay is that of runs with arrivals at random, else the control delay of `table --by movement`. Where what
     passes hangs on the case's own flow, `at_flow`, it is what may pass at that flow.
     """
 
@@ -25,6 +25,7 @@ class Case:
     made: Junction | Roundabout | Arterial
     capacity: Callable[[], float] | None = None
     delay: Callable[[], float] | None = None
+    delay_of: Callable[[float], float] | None = None
     at_random: bool = False
     at_flow: bool = False
     is_modelled: bool = True
@@ -37,7 +38,7 @@ def side_street(right, left, flare=0):
             "S": Arm(("r", "l") if flare else ("rl",), {"r": right, "l": left}, flare=flare)}
     parts = [(right, gaps(550, "minor-right")), (left, gaps(1030, "minor-left of three legs"))]
     capacity = flared(parts, flare) if flare else shared(parts)
-    return Junction("priority", arms, ("Sr", "Sl")), lambda: capacity, lambda: at_stop(right + left, capacity)
+    return Junction("priority", arms, ("Sr", "Sl")), lambda: capacity, lambda: at_stop(right + left, capacity), lambda most: at_stop(right + left, most)
 
 
 def permitted_pocket(against, left):
@@ -48,7 +49,7 @@ def permitted_pocket(against, left):
     capacity = permitted(against, CYCLE, GREEN)
     after = clears(against, CYCLE - GREEN)
     passes = _by_second(CYCLE, ((after, GREEN, gaps(against, "permitted-left")), (GREEN - SNEAKING, GREEN, SATURATION)))
-    return Junction("traffic_light", arms, ("Sl",), phases), lambda: capacity, lambda: even_queue(left, passes) + at_random(left, capacity, 4)
+    return Junction("traffic_light", arms, ("Sl",), phases), *_in_proportion(left, capacity, passes)
 
 
 def permitted_lane(against, ahead, left):
@@ -56,8 +57,11 @@ def permitted_lane(against, ahead, left):
     arms = {"N": Arm(("s",), {"s": against}), "S": Arm(("sl",), {"s": ahead, "l": left}), "E": Arm(("s",), {"s": 100}), "W": Arm(("s",), {"s": 100})}
     phases = Phase(GREEN, "Ss Sl? Ns"), Phase(GREEN, "Es Ws")
     flow = ahead + left
-    capacity = permitted_in_lane(against, left / flow, CYCLE, GREEN)
-    return Junction("traffic_light", arms, ("Ss", "Sl"), phases), lambda: capacity, lambda: at_signal(flow, capacity, CYCLE, capacity / SATURATION * CYCLE)
+    part, at_flow = left / flow, permitted_in_lane(against, left / flow, CYCLE, GREEN, flow)
+    first, later, lane = in_lane(against, part, CYCLE, GREEN, flow)
+    passes = _by_second(CYCLE, ((0, first, SATURATION), (later, GREEN, lane), (GREEN - 1, GREEN, (1 + part) * 3600)))
+    return (Junction("traffic_light", arms, ("Ss", "Sl"), phases), lambda: permitted_in_lane(against, part, CYCLE, GREEN),
+            lambda: even_queue(flow, passes) + at_random(flow, at_flow, 4))
 
 
 def protected(left):
@@ -77,7 +81,15 @@ def both(against, left):
     begins = first + RED
     passes = _by_second(CYCLE, ((0, begins, SATURATION), (begins + clears(against, CYCLE - second), begins + second, gaps(against, "permitted-left")),
                                 (begins + second - SNEAKING, begins + second, SATURATION)))
-    return Junction("traffic_light", arms, ("Sl",), phases), lambda: capacity, lambda: even_queue(left, passes) + at_random(left, capacity, 4)
+    return Junction("traffic_light", arms, ("Sl",), phases), *_in_proportion(left, capacity, passes)
+
+
+def _in_proportion(flow, capacity, passes):
+    """What passes, the delay of a flow, and the delay if more or less passes in each second in proportion."""
+    def delay(most=capacity):
+        return even_queue(flow, [one * most / capacity for one in passes]) + at_random(flow, most, 4)
+
+    return lambda: capacity, delay, delay
 
 
 def _by_second(cycle, spans):
@@ -88,14 +100,14 @@ def _by_second(cycle, spans):
 def right_out(towards, lanes, right):
     arms = {"W": Arm(("s",) * lanes, {"s": towards}, has_priority=True), "S": Arm(("r",), {"r": right})}
     capacity = gaps(towards / lanes, "minor-right", 2 * lanes)
-    return Junction("priority", arms, ("Sr",), lanes_out={"E": lanes}), lambda: capacity, lambda: at_stop(right, capacity)
+    return Junction("priority", arms, ("Sr",), lanes_out={"E": lanes}), lambda: capacity, lambda: at_stop(right, capacity), lambda most: at_stop(right, most)
 
 
 def left_off(towards, left):
     """A left turn off the street with priority, from a lane of its own."""
     arms = {"W": Arm(("s",), {"s": towards}, has_priority=True), "E": Arm(("s", "l"), {"s": 300, "l": left}, has_priority=True)}
     capacity = gaps(towards, "major-left")
-    return Junction("priority", arms, ("El",)), lambda: capacity, lambda: at_stop(left, capacity)
+    return Junction("priority", arms, ("El",)), lambda: capacity, lambda: at_stop(left, capacity), lambda most: at_stop(left, most)
 
 
 def four_arms(right, ahead, left):
@@ -108,7 +120,8 @@ def four_arms(right, ahead, left):
     lefts = gaps(2 * 60 + 350 + 30 / 2 + 2 * 60 + 350 + 30 / 2 + ahead / 2 + right / 2, "minor-left") * (
         both_free(turns ** 2, 1 - ahead / through) * (1 - right / rights))
     capacity = shared([(right, rights), (ahead, through), (left, lefts)])
-    return (Junction("priority", arms, ("Sr", "Ss", "Sl")), lambda: capacity, lambda: at_stop(right + ahead + left, capacity))
+    flow = right + ahead + left
+    return Junction("priority", arms, ("Sr", "Ss", "Sl")), lambda: capacity, lambda: at_stop(flow, capacity), lambda most: at_stop(flow, most)
 
 
 def all_stop(street, side):
@@ -122,7 +135,11 @@ def all_stop(street, side):
 def ring(flows, kinds=("one into one",), lanes=1, entries=1):
     made = Roundabout(flows, ("Sr", "Ss", "Sl"), lanes, entries)
     capacity, flow = sum(entry(made.circulating("S"), kind) for kind in kinds), made.watched_flow
-    return made, lambda: capacity, lambda: at_roundabout(flow / len(kinds), capacity / len(kinds))
+
+    def delay(most=capacity):
+        return at_roundabout(flow / len(kinds), most / len(kinds))
+
+    return made, lambda: capacity, delay, delay
 
 
 def alike(flow):
@@ -153,13 +170,9 @@ def following(first, second):
     return Junction("traffic_light", arms, ("Ss",), phases), lambda: capacity, None
 
 
-# Why the tools may differ, by kind: the gaps that docs/SUMO.md fitted, which no run of these cases has set apart yet.
-LONG_GAPS = "perhaps that SUMO's drivers want longer gaps, 8.3 s to the right in place of 6.2"
-CAUSES = {"shared lane": LONG_GAPS, "two-way stop": LONG_GAPS, "flare": LONG_GAPS,
-          "permitted left": "perhaps that SUMO's drivers want gaps of 7.7 s in place of 4.5, and one turns at the end of a green in place of two",
-          "all-way stop": "the tools have no rule of an all-way stop"}
-IN_LANE = "cause not found; the tools have less than the manual too"
-TURN_LIMITS = LONG_GAPS + "; the manual adds both lanes up, but no more turn left than their own lane passes"
+# Why the tools differ, as far as that is known; bench/towns adds what follows from what SUMO passes.
+CAUSES = {"all-way stop": "the tools have no rule of an all-way stop"}
+TURN_LIMITS = "the manual adds both lanes up, but no more turn left than their own lane passes"
 UNEQUAL = {"S": {"r": 90, "s": 180, "l": 80}, "W": {"r": 30, "s": 650, "l": 40}, "N": {"r": 40, "s": 60, "l": 40}, "E": {"r": 40, "s": 300, "l": 40}}
 FOLLOWING = Arterial(500, 300, 0, is_actuated=True)
 CASES = [
@@ -168,9 +181,9 @@ CASES = [
     Case("flare for one, 240", "flare", *side_street(120, 120, 1), at_flow=True),
     Case("flare for two, 240", "flare", *side_street(120, 120, 2), at_flow=True, cause=TURN_LIMITS),
     *(Case(f"permitted left, {left} against {against}", "permitted left", *permitted_pocket(against, left))
-      for against, left in ((300, 100), (300, 250), (500, 75), (500, 150), (700, 40), (700, 80))),
-    Case("one lane, a fifth left, against 300", "shared lane", *permitted_lane(300, 320, 80), cause=IN_LANE),
-    Case("one lane, half left, against 300", "shared lane", *permitted_lane(300, 130, 130), cause=IN_LANE),
+      for against, left in ((300, 100), (300, 250), (500, 100), (500, 200), (700, 60), (700, 100))),
+    Case("one lane, a fifth left, against 300", "shared lane", *permitted_lane(300, 320, 80)),
+    Case("one lane, half left, against 300", "shared lane", *permitted_lane(300, 130, 130)),
     Case("protected left, 200", "protected", *protected(200)),
     Case("protected and permitted left, 350", "both", *both(400, 350)),
     Case("stop, right, 300 beside 600", "two-way stop", *right_out(600, 1, 300)),
@@ -180,10 +193,10 @@ CASES = [
     Case("all-way stop, 250 on each arm", "all-way stop", *all_stop(250, 250), is_modelled=False),
     Case("all-way stop, 350 and 150", "all-way stop", *all_stop(350, 150), is_modelled=False),
     Case("roundabout, 480 on each arm", "roundabout", *ring(alike(480)), at_flow=True),
-    Case("roundabout, 350 beside 730", "roundabout", *ring(UNEQUAL), at_flow=True, cause="perhaps that SUMO's drivers want gaps of 7.0 s in place of 5.0"),
+    Case("roundabout, 350 beside 730", "roundabout", *ring(UNEQUAL), at_flow=True),
     Case("roundabout, one lane into two, 500", "roundabout", *ring(alike(500), ("one into two",), 2), at_flow=True),
     Case("roundabout, two lanes into two, 700", "roundabout", *ring(alike(700), ("left of two into two", "right of two into two"), 2, 2), at_flow=True,
-         cause="who gives way passes as from one lane"),
+         cause="the tools let who gives way pass as from one lane"),
     Case("pocket of 40 m, protected, 150 left", "pocket", *spilling(150, 40, False), at_random=True),
     Case("pocket of 30 m, permitted, 200 left", "pocket", *spilling(200, 30, True), at_random=True),
     Case("two signals, a green wave", "arterial", *arterial(29), at_random=True),

@@ -56,7 +56,7 @@ class Built:
     def made_again_by(self) -> str:
         """The line that makes the packages again, or why there is none."""
         if self.commit == UNKNOWN:
-            return "git told no commit of these files"
+            return "git gave no commit of these files"
         if self.changed:
             return "no commit has these files"
         line = f"git checkout {self.commit} && tools/package"

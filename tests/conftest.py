@@ -4,6 +4,7 @@ import os
 import resource
 import signal
 import subprocess
+import sys
 from pathlib import Path
 
 import pytest
@@ -11,6 +12,8 @@ from launched import Repository
 from worked import CORRIDOR
 
 TOP = Path(__file__).resolve().parents[1]
+sys.path.append(str(TOP / "launcher/checks"))
+pytest_plugins = ["few"]
 BUILT = TOP / "crates/ctm_program/out/ctm_program"
 SECONDS = int(os.environ.get("CTM_TEST_SECONDS", "120"))  # of processor time, for each run
 # Of memory, for each run; None for no limit, since a program that is built with checks takes addresses without end.

@@ -184,6 +184,8 @@ def without(gate, path, part):
     # A library of an earlier run stands there.
     broken(lambda gate: [gate.write("crates/no_memory/out/proved/no_memory.rlib/earlier", ""), gate.script("launcher/prove", "")],
            "launcher/prove made no library of no_memory"),
+    broken(lambda gate: gate.replace("../bin/rt", "cat log;", "echo >>crates/low/src/lib.rt; cat log;"),
+           "a source was changed meanwhile, so what stands here isn't what was proved"),
     *[broken(lambda gate, check=check: os.remove(gate.top / check), f"{check}: no cases passed, and") for check in CHECKS],
     *[broken(lambda gate, check=check: gate.script(check, "exit 0"), f"{part}: no cases passed")
       for part, check in (("stress", "bench/stress-wait"), ("fuzz", "tests/fuzz"), ("handles", "launcher/check_handles"))],

@@ -158,7 +158,7 @@ def test_the_kinds_of_records_have_as_many_fields_as_in_the_crate():
     ("The input has more than {} bytes", constant("network_file/src/limits.rt", "MOST_BYTES")),
     ("more than {} of a saved text", constant("call_beginning/src/input.rt", "MOST_SAVED_BYTES")),
     ("the run would record more than\n{} values", constant("call_beginning/src/recording.rt", "MOST_RECORDED")),
-    ("the shots would show more than {} rows", constant("run_modes/src/watch_mode.rt", "MOST_SHOWN")),
+    ("the snapshots would show more than {} rows", constant("run_modes/src/watch_mode.rt", "MOST_SHOWN")),
     ("has no plans, or more than {}.", constant("plan_choice/src/pieces.rt", "MOST_PLANS")),
 ], ids=lambda it: it if isinstance(it, str) else "")
 def test_the_limits_of_the_manual_are_those_of_the_crates(text, known):

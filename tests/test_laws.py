@@ -99,7 +99,7 @@ def test_a_part_waits_for_all_its_steps_but_one(last, waited, lane_drop):
 
 
 def test_a_part_leaves_after_those_before_it(lane_drop):
-    vehicle, *steps, held, leave = told("The last part of the {}th vehicle comes to m20 by step {} and goes by step {}: the cell "
+    vehicle, *steps, held, leave = told("The last part of the {}th vehicle comes to m20 by step {} and leaves by step {}: the cell "
                                         "then holds {} vehicles, but for rounding, of which {} leave in a step.")
     part = vehicles(vehicle) - 1
     came = next(step for step, parts in enumerate(lane_drop.arrivals("m20")) if parts > part)
@@ -113,8 +113,8 @@ def test_a_part_leaves_after_those_before_it(lane_drop):
 def test_a_bottleneck_passes_its_capacity(lane_drop):
     held, gone = lane_drop.held["m21"], lane_drop.gone["m21"]
     capacity, first, last, steps, out, quarter, *flows, rest, least = told(
-        "m21, holds its capacity of {} at each step from {} to {}. So in these {} steps {} vehicles go out of it: all that come from "
-        "07:00 until the queue has gone, `{}·({} + {} + {}) + {}·{}`.")
+        "m21, holds its capacity of {} at each step from {} to {}. So in these {} steps {} vehicles leave it: all that come from "
+        "07:00 until the queue has cleared, `{}·({} + {} + {}) + {}·{}`.")
     assert [step for step, parts in enumerate(held) if parts >= vehicles(capacity)] == list(range(first, last + 1))
     assert (last + 1 - first, capacity * steps, quarter * sum(flows) + rest * least) == (steps, out, out)
     assert gone[last + 1] - gone[first] == vehicles(out)

@@ -138,7 +138,7 @@ def test_the_working_of_a_diverge_is_by_the_rule_of_the_page(row):
 
 def test_a_road_receives_the_same_at_each_occupancy_that_the_page_names(recorded):
     room, slow, fast, flow, least, most, received = re.search(
-        r"with `N = (\d+)`, `A/B = (\d+)/(\d+)` and a flow of (\d+), each occupancy from ([\d.]+) to ([\d.]+) receives ([\d.]+);",
+        r"with `N = (\d+)`, `A/B = (\d+)/(\d+)` and a flow of (\d+), each `n` from ([\d.]+) to ([\d.]+) receives ([\d.]+);",
         MODEL).groups()
     part = Fraction(1, 1_000_000)
     alike = [Fraction(least) + k * part for k in range(int((Fraction(most) - Fraction(least)) / part) + 1)]

@@ -180,7 +180,7 @@ EXAMPLE_WORDS = [example for row in EXAMPLES for example in re.findall(r"`(ctm[^
 
 
 def test_each_row_of_the_table_of_refused_words_is_read():
-    assert [row for row in EXAMPLES if "`ctm" not in row] == ["| a word that isn't UTF-8, wherever it stands | |"]
+    assert [row for row in EXAMPLES if "`ctm" not in row] == ["| a word that isn't UTF-8, in any place | |"]
     assert len(EXAMPLES) == 9
 
 

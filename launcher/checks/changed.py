@@ -20,9 +20,11 @@ WHOLE = {
     "docs/inside/FIELD.md": ("plays",), "tests/plays": ("plays",),
     ".ci/": ("contracts", "counts", "launcher", "plays"),
     "check": ("launcher",), "ctm": ("launcher",), "launcher/": ("launcher", "small-proof"), "packaging/": ("launcher",),
+    "launcher/checks/few.py": ("program", "tools"),
     "tests/": ("counts",), "tools/tests/": ("counts",), "examples/": ("examples", "counts"),
     "tools/check": ("tools",), "tools/setup": ("tools",), "tools/find-python": ("tools",),
-    "tests/program": ("program",), "tests/left_out_on_trials.txt": ("program",), "tests/launcher": ("launcher",), "tools/tests/left_out_on_trials.txt": ("tools",),
+    "tests/program": ("program",), "tests/left_out_on_trials.txt": ("program",), "tests/launcher": ("launcher",),
+    "tools/tests/left_out_on_trials.txt": ("tools",),
     "tools/tests/studies/": ("tools",),
     "bench/stress-wait": ("stress",), "bench/cases.py": ("stress",), "bench/chains.py": ("stress",), "bench/loads.py": ("stress",),
     "tests/fuzz": ("fuzz",),
@@ -33,11 +35,13 @@ OF_PROGRAMS = ("program", "launcher", "examples", "tools", "stress")
 def git(*words):
     """The lines that git gives; ends where it gives none for a fault."""
     try:
-        ended = subprocess.run(["git", "-C", TOP, *words], stdout=subprocess.PIPE, stderr=subprocess.PIPE, text=True)
+        # Names beyond ASCII are to stand as they are.
+        ended = subprocess.run(["git", "-C", TOP, "-c", "core.quotePath=false", *words], stdout=subprocess.PIPE,
+                               stderr=subprocess.PIPE, text=True)
     except OSError:
         raise Missing("git isn't on the path, so what was changed isn't known") from None
     if ended.returncode:
-        raise Missing(f"git doesn't tell what was changed: {(ended.stderr.splitlines() or ['it says nothing'])[-1]}")
+        raise Missing(f"git doesn't say what was changed: {(ended.stderr.splitlines() or ['it says nothing'])[-1]}")
     return ended.stdout.splitlines()
 
 

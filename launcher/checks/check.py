@@ -11,13 +11,13 @@ The status is the worst of the parts', 2 where something is missing, 130 where C
 
 import os
 import re
-import shutil
-import subprocess
 import sys
 from signal import SIGPIPE
 
 import programs as programs_of
 from changed import all_crates, jobs_of_change
+from few import UnreadableList
+from needs import make, need_rt, needed
 from parts import NAMES, PARTS, TOP, minutes, named, processor_seconds, rows
 from programs import Missing
 from run import Job, Run, listed, say
@@ -30,7 +30,8 @@ def main(words):
     heed_signals()
     try:
         return chosen(words)
-    except Missing as error:
+    except (Missing, UnreadableList) as error:
+        end_all()
         print(f"./check: {error}", file=sys.stderr)
         return 2
     except Interrupted as signal:
@@ -40,8 +41,22 @@ def main(words):
     except BrokenPipeError:
         # Nobody reads on, as of `./check | head -n 1`.
         end_all()
-        os.dup2(os.open(os.devnull, os.O_WRONLY), sys.stdout.fileno())
+        write_no_more()
         return 128 + SIGPIPE
+    except OSError as error:
+        # As of a disk that is full.
+        end_all()
+        print(f"./check: {error}", file=sys.stderr)
+        write_no_more()
+        return 2
+    except Exception:
+        # What was begun isn't left behind.
+        end_all()
+        raise
+
+
+def write_no_more():
+    os.dup2(os.open(os.devnull, os.O_WRONLY), sys.stdout.fileno())
 
 
 def chosen(words):
@@ -60,13 +75,14 @@ def chosen(words):
             return 0
         case [name, *rest] if named(name):
             return one(named(name), rest)
-    raise Missing(f"there is no part or option {' '.join(words)}; the parts are {listed(NAMES)}; ./check --help tells the options")
+    raise Missing(f"there is no part or option {' '.join(words)}; the parts are {listed(NAMES)}; ./check --help lists the options")
 
 
 def whole():
     processes = processors()
     jobs = [Job(part, processes=processes) for part in PARTS if not part.is_for_words]
-    need(jobs)
+    need_rt(jobs)
+    make(jobs)
     tell_time(jobs)
     programs = programs_of.of_proofs()
     return ended(Run(jobs, programs, environment(programs), shows=os.environ.get("CI") == "true"))
@@ -78,14 +94,12 @@ def quick():
     jobs = [Job(part, processes=processes) for part in reversed(PARTS) if part.is_quick]
     taken = processor_seconds()
     jobs.sort(key=lambda job: -taken.get(job.part.name, float("inf")))
-    need(jobs)
     return ended(with_programs(jobs, at_once=AT_ONCE), "but for proofs, edits, stress and fuzz: ")
 
 
 def changed(commit=None):
     jobs, told, left_out = jobs_of_change(commit, processors())
     say(f"./check: {told}")
-    need(jobs)
     status = ended(with_programs(jobs, at_once=AT_ONCE), "of what the changes reach: ") if jobs else 0
     for line in left_out:
         say(f"./check: left out: {line}")
@@ -98,30 +112,15 @@ def one(part, words):
     if part.is_for_words and not (words and all_crates().uses.keys() >= {*words}):
         raise Missing(f"./check {part.name} takes the names of crates, as crates.txt has them")
     job = Job(part, tuple(words), processes=1 if words else processors())
-    need([job])
     return with_programs([job], shows=True).go()
-
-
-def need(jobs):
-    """Sets up the packages that the jobs need; ends where something is missing that can't be set up."""
-    needs = {it for job in jobs for it in job.part.needs}
-    if "rt" in needs and not shutil.which("rt"):
-        parts = listed(job.part.name for job in jobs if "rt" in job.part.needs)
-        raise Missing(f"the toolchain's command rt isn't on the path, and needed for {parts}; nothing was run")
-    if "packages" in needs:
-        try:
-            status = subprocess.run([TOP / "tools/setup"], stdin=subprocess.DEVNULL).returncode
-        except OSError as error:
-            raise Missing(f"tools/setup can't be run: {error.strerror}; nothing was run") from None
-        if status:
-            # It has said which packages are missing, in a line of its own.
-            sys.exit(2)
 
 
 def with_programs(jobs, **how):
     """A run of the jobs, on the programs that there are where one of them needs these."""
-    is_needed = any("programs" in job.part.needs for job in jobs)
-    programs = programs_of.chosen(lambda text: say(f"./check: {text}")) if is_needed else None
+    need_rt(jobs)
+    is_shortened = any(job.part.on_trials and not job.words for job in jobs)
+    programs = programs_of.chosen(lambda text: say(f"./check: {text}"), is_shortened) if "programs" in needed(jobs) else None
+    make(jobs, programs)
     if len(jobs) > 1:
         tell_time(jobs)
     return Run(jobs, programs, environment(programs), **how)

@@ -21,7 +21,7 @@ class Part:
     is_quick: bool = True
     is_by_pytest: bool = False
     on_trials: tuple[str, ...] = ()  # the command on trials, where these would take too long over the whole
-    left_out_on_trials: str = ""  # the file that names the test files which that command leaves out
+    left_out_on_trials: str = ""  # the list of the cases that this command leaves out
     takes_words: bool = False  # hands words of its own on to the command
     is_for_words: bool = False  # has such words always, so it is no part of the whole check
 
@@ -56,11 +56,6 @@ PARTS = (
          takes_words=True, is_for_words=True),
 )
 NAMES = tuple(part.name for part in PARTS)
-
-
-def left_out_on_trials(part):
-    """The names of the test files that the part leaves out on trials."""
-    return (TOP / part.left_out_on_trials).read_text().split() if part.left_out_on_trials else []
 
 
 def named(name):

@@ -4,13 +4,11 @@ import os
 import shutil
 import subprocess
 import sys
-import tempfile
-import time
 from dataclasses import dataclass
 from pathlib import Path
 
 from parts import TOP
-from running import Command, reap_others
+from running import Command
 from trial import kept_trial, keeps
 
 NAMED = {"ctm_program": "CTM_PROGRAM", "ctm_wait": "CTM_WAIT_PROGRAM"}
@@ -29,6 +27,7 @@ class Programs:
     waiting: Path
     told: str
     are_tried: bool = False
+    lacking: tuple[str, ...] = ()  # those of trials that are yet to be made
 
     def environment(self):
         """What tells the parts of them. A program with checks at run time takes addresses without end."""
@@ -51,12 +50,14 @@ def is_current(target):
     return subprocess.run(["bash", "-c", ASKS, "bash", TOP, target], stdout=subprocess.DEVNULL).returncode == 0
 
 
-def chosen(say):
-    """The programs that are there, or trials of the sources; says which they are."""
+def chosen(say, is_shortened=True):
+    """The programs that are there, or trials of the sources, of which some may be yet to be made; says which they are, and where
+    a part is shortened on trials, how.
+    """
     programs = found()
     if programs:
         say(programs.told)
-    return programs or tried(say)
+    return programs or tried(say, is_shortened)
 
 
 def found():
@@ -64,33 +65,29 @@ def found():
     names = [os.environ.get(it, "") for it in NAMED.values()]
     if any(names):
         for variable, name in zip(NAMED.values(), names):
-            if not os.access(name, os.X_OK):
+            if not (os.path.isfile(name) and os.access(name, os.X_OK)):
                 raise Missing(f"{variable} names no program: {name or 'it is empty, and the other is not'}")
-        return Programs(*map(Path, names), f"the programs are those that {' and '.join(NAMED.values())} name")
+        # The parts run in other folders than where one stands.
+        paths = (Path(name).absolute() for name in names)
+        return Programs(*paths, f"the programs are those that {' and '.join(NAMED.values())} name")
     if all(map(is_current, NAMED)):
         return Programs(*map(built, NAMED), "the programs are the proved ones, which are current")
     return None
 
 
-def tried(say):
+def tried(say, is_shortened):
     """Programs that `rt try` makes of the sources that stand here, with checks at run time and without a proof."""
     told = "the programs are those that ./ctm --try makes, without a proof and with checks at run time"
-    lacking = [target for target in NAMED if not keeps(target)]
+    lacking = tuple(target for target in NAMED if not keeps(target))
     if lacking and not shutil.which("rt"):
         raise Missing("no program is built of what stands here, and the toolchain's command rt, which makes one, isn't on the path")
-    say(f"no program is built of what stands here, so {told}, the examples run by fewer workers and regions, and the tests "
-        f"without the files that take longest on them{'; to make them takes a minute or two' if lacking else ''}")
-    with tempfile.TemporaryDirectory(prefix="ctm-check-") as folder:
-        make_trials(lacking, Path(folder))
-    return Programs(*map(kept_trial, NAMED), told, are_tried=True)
+    shortened = ", the examples run by fewer workers and regions, and the tests without the cases that take longest on them"
+    say(f"no program is built of what stands here, so {told}{shortened if is_shortened else ''}"
+        f"{'; to make them takes a minute or two' if lacking else ''}")
+    return Programs(*map(kept_trial, NAMED), told, are_tried=True, lacking=lacking)
 
 
-def make_trials(targets, folder):
+def begun_trials(programs, folder):
+    """The commands that make what is lacking of the programs, by its name. What they say comes into the folder."""
     words = [sys.executable, "-B", Path(__file__).with_name("trial.py")]
-    commands = {it: Command([*words, it], dict(os.environ), TOP, folder / it) for it in targets}
-    while not all([it.has_ended() for it in commands.values()]):
-        reap_others(commands.values())
-        time.sleep(0.05)
-    for target, command in commands.items():
-        if command.status:
-            raise Missing(f"rt try makes no program of {target}: {(command.said().splitlines() or ['it says nothing'])[-1]}")
+    return {it: Command([*words, it], dict(os.environ), TOP, folder / it) for it in programs.lacking}

@@ -6,12 +6,13 @@ import time
 from dataclasses import dataclass
 from pathlib import Path
 
-from parts import PROGRAM, TOP, WAITING, Part, left_out_on_trials
+from few import kept_shares
+from parts import PROGRAM, TOP, WAITING, Part
 from running import Command, Interrupted, end_all, reap_others
-from verdict import cases_passed, counted, faults
+from verdict import cases_passed, counted, counted_few, faults
 
 LAST_LINES = 20  # of what a part says that failed
-COUNTS = TOP / ".ci/counts.txt"
+COUNTS, CASES = TOP / ".ci/counts.txt", TOP / ".ci/cases.txt"
 
 
 @dataclass(frozen=True)
@@ -34,6 +35,15 @@ class Job:
         """Whether it is the command for trials. Words of one's own say themselves what to run."""
         return bool(self.part.on_trials and programs and programs.are_tried and not self.words)
 
+    def wanted(self, programs):
+        """How many cases are to pass, or None where only some of them run, and how many are left out."""
+        part = self.part
+        if not part.cases or self.words:
+            return None, 0
+        if part.left_out_on_trials and self.is_shortened(programs):
+            return counted_few(CASES, part.cases, kept_shares(TOP / part.left_out_on_trials))
+        return counted(COUNTS, part.cases), 0
+
     def repeated(self):
         return " ".join(["./check", self.part.name, *self.words])
 
@@ -49,15 +59,15 @@ class Run:
 
     def go(self):
         """Runs the jobs, and returns the worst status."""
-        with tempfile.TemporaryDirectory(prefix="ctm-check-") as folder:
-            try:
+        try:
+            with tempfile.TemporaryDirectory(prefix="ctm-check-") as folder:
                 while self.waiting or self.commands:
                     self.turn(Path(folder))
-            except Interrupted as signal:
-                self.is_interrupted = True
-                end_all()
-                self.tell_interruption()
-                return 128 + signal.number
+        except Interrupted as signal:
+            self.is_interrupted = True
+            end_all()
+            self.tell_interruption()
+            return 128 + signal.number
         return self.worst
 
     def turn(self, folder):
@@ -83,24 +93,23 @@ class Run:
 
     def finish(self, job):
         command, part = self.commands.pop(job), job.part
-        self.begun.remove(job)
         said = command.said()
         self.outputs.pop(job).close()
-        without = left_out_on_trials(part) if job.is_shortened(self.programs) else []
-        wanted = counted(COUNTS, part.cases, without) if part.cases and not job.words else None
-        found = list(faults(part.cases or part.name, said, wanted))
+        wanted, left_out = job.wanted(self.programs)
+        found = list(faults(part.cases or part.name, said, wanted, left_out))
         status = max(command.status, 1 if found else 0)
         self.worst = max(self.worst, status)
         say(f"{part.name:11} {cases_passed(said):6} cases   {f'FAILED, status {status}' if status else 'passed'}, "
-            f"{command.seconds:.0f} s, {command.processor_seconds:.0f} s of processors{told_without(part, without)}")
+            f"{command.seconds:.0f} s, {command.processor_seconds:.0f} s of processors{told_without(part, left_out)}")
         if status:
             self.tell_failure(job, found, said)
         else:
             self.passed.append(part.name)
+        self.begun.remove(job)
         if part.name == "proofs":
             self.tallies.append(said.splitlines()[-1] if said else "nothing proved")
         elif part.cases:
-            self.tallies.append(f"{cases_passed(said)} of {part.cases}")
+            self.tallies.append(f"{cases_passed(said)} of {part.cases}{f' ({left_out} left out)' if left_out else ''}")
 
     def tell_failure(self, job, found, said):
         for line in [] if self.shows else said.splitlines()[-LAST_LINES:]:
@@ -114,8 +123,8 @@ class Run:
             f"not begun: {listed(job.part.name for job in self.waiting)}")
 
 
-def told_without(part, without):
-    return f"; on a trial without {len(without)} files of {part.left_out_on_trials}" if without else ""
+def told_without(part, left_out):
+    return f"; on a trial without {left_out} cases, by {part.left_out_on_trials}" if left_out else ""
 
 
 def listed(names):

@@ -5,7 +5,7 @@ import os
 import signal
 import subprocess
 import time
-from contextlib import suppress
+from contextlib import nullcontext, suppress
 from pathlib import Path
 
 CHILD_SUBREAPER = 36  # of prctl(2)
@@ -23,19 +23,21 @@ class Interrupted(BaseException):
 
 
 class Command:
-    """A command that runs, and then its status and its seconds by the clock and of processors."""
+    """A command that runs, and then its status and its seconds by the clock and of processors. Without a log it prints itself."""
 
-    def __init__(self, words, environment, folder, log):
-        self.log, self.began = log, time.monotonic()
+    def __init__(self, words, environment, folder, log=None):
+        self.log, self.began, self.fault = log, time.monotonic(), ""
         self.status, self.seconds, self.processor_seconds, self.process = None, 0.0, 0.0, None
-        with open(log, "wb") as out:
+        with open(log, "wb") if log else nullcontext() as out:
+            # A group of its own, so that Ctrl-C reaches this process alone; but processes of sudo end by Ctrl-C alone.
+            streams = {"stdout": out, "stderr": subprocess.STDOUT, "process_group": 0} if log else {}
             try:
-                # A group of its own, so that Ctrl-C reaches this process alone.
                 self.process = subprocess.Popen([str(it) for it in words], env=environment, cwd=folder, stdin=subprocess.DEVNULL,
-                                                stdout=out, stderr=subprocess.STDOUT, process_group=0)
+                                                **streams)
             except OSError as error:
-                out.write(f"{words[0]}: {error.strerror}\n".encode())
-                self.status = NOT_STARTED
+                self.fault, self.status = error.strerror, NOT_STARTED
+                if log:
+                    out.write(f"{words[0]}: {self.fault}\n".encode())
 
     def has_ended(self):
         if self.status is None:

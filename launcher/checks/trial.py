@@ -56,6 +56,8 @@ def keep(target):
     """Keeps the program; returns what rt said where it makes none."""
     made, before = kept_trial(target), checksum(target)
     made.parent.mkdir(parents=True, exist_ok=True)
+    # The program before it may be replaced by one that fails.
+    made.with_name("sum").unlink(missing_ok=True)
     with tempfile.TemporaryDirectory(prefix="ctm-trial-") as folder:
         folder = Path(folder)
         (folder / "network").write_text(long_run())

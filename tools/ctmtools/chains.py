@@ -6,7 +6,11 @@ from collections.abc import Callable, Iterable
 
 
 def chains(names: Iterable[str], following: Callable[[str], str | None]) -> list[list[str]]:
-    """The names as chains, each once: those that follow none begin theirs, in their order; rings begin with their first."""
+    """The names as chains, each name once.
+
+    `following` gives the name behind another, or None. Names that follow none begin their chains, in their order; a ring begins
+    with its first.
+    """
     followers = {name: following(name) for name in names}
     begun = set(followers.values())
     found: list[list[str]] = []

@@ -4,7 +4,7 @@ from __future__ import annotations
 
 import datetime
 import json
-from collections.abc import Iterator, Sequence
+from collections.abc import Callable, Iterator, Sequence
 from dataclasses import asdict, dataclass, field
 from pathlib import Path
 from typing import Any, TypeVar
@@ -189,6 +189,20 @@ class Units:
         """The length of a cell in km, or None where it isn't known: gates and exits have none."""
         row = self.cells.get(cell)
         return row["to_km"] - row["from_km"] if row else None
+
+    def made_place(self, cell: str, called: Callable[[str], str] = str, into: Callable[[str], str] = str) -> str | None:
+        """Where a cell lies that a junction made, by the road and the movement that drive through it; None of any other.
+
+        `called` has what a road is called, and `into` the way that a movement takes.
+        """
+        road = self.within.get(cell)
+        if road is None:
+            return None
+        ways = [one.into for approach in self.approaches for one in approach.movements if one.cells and one.cells[-1] == cell]
+        if ways:
+            return f"{called(road)}, before the stop line, to {into(ways[0])}"
+        parting = any(cell in one.cells for approach in self.approaches for one in approach.movements)
+        return f"{called(road)}, where its movements part" if parting else f"{called(road)}, where movements join"
 
     def named_cells(self) -> Iterator[str]:
         """The cells that the file says anything of."""

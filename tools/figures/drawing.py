@@ -45,6 +45,15 @@ class Drawing:
         self.shapes.append(f'<path class="arrow bare" d="M{x:.1f} {y:.1f} L{to_x - back:.1f} {y:.1f}"/>')
         self.shapes.append(f'<path class="head" d="M{to_x:.1f} {y:.1f} l{-back} -4 v8 z"/>')
 
+    def bend(self, begin: tuple[float, float], by: tuple[float, float], end: tuple[float, float], dashes: str) -> None:
+        """An arrow that bends towards a point, which it leaves along the line from there to its end."""
+        (x, y), (by_x, by_y), (to_x, to_y) = begin, by, end
+        right, down = (0, (to_y > by_y) - (to_y < by_y)) if by_x == to_x != x else ((to_x > x) - (to_x < x), 0)
+        tip = f"M{to_x:.1f} {to_y:.1f} l{-8 * right - 4 * down} {-8 * down - 4 * right} l{8 * down} {8 * right} z"
+        self.shapes.append(f'<path class="arrow bare" stroke-width="1.5" stroke-dasharray="{dashes}" '
+                           f'd="M{x:.1f} {y:.1f} Q{by_x:.1f} {by_y:.1f} {to_x - 7 * right:.1f} {to_y - 7 * down:.1f}"/>')
+        self.shapes.append(f'<path class="head" d="{tip}"/>')
+
     def text(self) -> str:
         """The file."""
         styles = [f".{kind} {{ {what}: {light} }}" for kind, (what, light, _) in COLOURS.items()]

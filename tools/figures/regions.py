@@ -41,5 +41,5 @@ def regions_picture() -> str:
         drawing.words(x, 22, f"region {region}")
         drawing.words(x, 216, f"its border: {' and '.join(sorted(border_cells(region)))}; "
                               f"its halo: {' and '.join(sorted(halo(region)))}")
-    drawing.words(392, 240, "The diverge from b into c and d is cut. Who takes a region through a step looks at its halo.", "faint", size=12)
+    drawing.words(392, 240, "The diverge from b into c and d is cut. A step of a region needs its halo.", "faint", size=12)
     return drawing.text()

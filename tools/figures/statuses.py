@@ -13,7 +13,7 @@ STAGES = [
     ("reads the network, with choose each plan's", "3", "ctm: network: record R code C NAME"),
     ("resume: looks at the saved text around it", "8", "ctm: saved: code C NAME"),
     ("counts what would be recorded", "4", "ctm: too large: record"),
-    ("watch: counts the rows of the shots", "4", "ctm: too large: shots"),
+    ("watch: counts the rows of the snapshots", "4", "ctm: too large: shots"),
     ("runs, and makes the whole text", "7", "ctm: no memory (at any place)"),
     ("writes the text", "6", "ctm: write fault"),
 ]

@@ -12,6 +12,8 @@ from ctmtools.study import folder
 
 from .examples import save_report
 
+pytest_plugins = ["few"]
+
 
 @pytest.fixture(scope="session")
 def program():

@@ -2,6 +2,7 @@
 
 import asyncio
 import threading
+import time
 from contextlib import contextmanager
 
 from selenium import webdriver
@@ -63,3 +64,12 @@ def opened(browser, address, width=1300, height=1000, scheme="light"):
 def is_drawn(browser, version):
     """Waits until the page has drawn a version of the study."""
     until(browser, "Number(document.body.dataset.drawn) >= arguments[0]", version)
+
+
+def until_it_is(value, holds):
+    """Waits until a value is as it is wanted, and gives it."""
+    end = time.monotonic() + PATIENCE
+    while not holds(found := value()):
+        assert time.monotonic() < end, found
+        time.sleep(0.02)
+    return found

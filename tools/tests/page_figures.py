@@ -195,7 +195,7 @@ def green():
     yield (f"the first drive off at {one.v} km/h at saturation flow; the start of moving runs back at {one.w} km/h, and reaches the last at "
            f"{clock(begin + float(last) / one.w)}.")
     yield f"falls from {HIGH:.0%} to {1 - HIGH:.0%} of the jump".replace("%", " %")
-    yield f"It is `{spread:.2f} · sqrt((1 - w/v) · way · length of a cell)` within {at_most(3, 100 * far)} %"
+    yield f"It is `{spread:.2f} · sqrt((1 - w/v) · distance back · length of a cell)` within {at_most(3, 100 * far)} %"
     yield f"The delay is {figures_of('green')[1][0]} vehicle-hours in all, as by theory."
 
 
@@ -215,7 +215,7 @@ def merge():
     delays = (waits[0] * (0.5 + gone) / 2, (waits[1] * 0.5 + (waits[1] + left) * gone + left * over) / 2)
     yield (f"lead into two lanes of {most:,} vehicles/h, with priorities {one} to {two} ([merge.toml]"
            "(../examples/validation/merge.toml)). Until 07:30 more come on each than its part, "
-           f"{parts[0]:,.0f} and {parts[1]:,.0f}. At the merge all is {short(way)} s later.")
+           f"{parts[0]:,.0f} and {parts[1]:,.0f}. All reaches the merge {short(way)} s later.")
     yield f"| 07:00 | 0.5 | {first:,}, {parts[0]:,.0f} | {short(waits[0])} | {second:,}, {parts[1]:,.0f} | {short(waits[1])} |"
     yield (f"| 07:30 | {short(gone, 5)} | {then:,}, {parts[0]:,.0f} | 0 | {later}, {parts[1]:,.0f} | {short(left)} |")
     yield f"| {clock(7.5 + gone)} | {short(over, 5)} | {then:,}, {then:,} | 0 | {later}, {freely:,} | 0 |"
@@ -230,7 +230,7 @@ def merge():
     close = freed + (back - slower * (freed - met)) / (ramp.w + slower)
     ended = [clocks(run("validation/merge"), queue)[2] for queue in queues_in(run("validation/merge"))][::-1]
     yield (f"Both tails move back by {first - parts[0]:.0f}/{queued - free:.0f} = {tail:.2f} km/h and stand {short(back)} km back at {clock(met)}. "
-           f"The road's then moves forward at {forward:.1f} km/h and is gone at {clock(met + back / forward)}. The ramp's moves forward at "
+           f"The road's then moves forward at {forward:.1f} km/h and reaches the merge at {clock(met + back / forward)}. The ramp's moves forward at "
            f"{slower:.2f} km/h until {clock(close)}, when it meets the release, which runs back at {ramp.w} km/h from {clock(freed)} on. "
            f"The program clears them at {ended[0]} and {ended[1]}.")
 
@@ -258,9 +258,9 @@ def off_ramp():
     theory, program = (float(figures[1]) for figures in figures_of("full off-ramp"))
     yield f"From {start} to {end} the town takes {fewer} vehicles/h where {short(main * part)} leave the motorway"
     yield f"the tail is on the motorway at {clock(8, on_the_road * 10)} and {short(back / 4)} km back at {clock(8, (release + met) * 10)}."
-    yield (f"Then it moves forward by ({short(4 * later)} - {short(come)})/({108 - 5 * 4 * later} - {short(come)}) = {forward} cell a step and is gone at "
+    yield (f"Then it moves forward by ({short(4 * later)} - {short(come)})/({108 - 5 * 4 * later} - {short(come)}) = {forward} cell a step and clears at "
            f"{clock(8, (release + met + back / forward) * 10)}.")
-    yield f"How the {short(bound)} vehicle-hours of those bound for the town part between ramp and motorway differs by {100 * (program / theory - 1):.1f} %."
+    yield f"Vehicles bound for the town lose {short(bound)} vehicle-hours by both; the ramp's part of these differs by {100 * (program / theory - 1):.1f} %."
 
 
 @of(VALIDATION)
@@ -314,10 +314,10 @@ def side_street():
     half = next(row for row in SIDE_STREETS if row[0] == "600")
     upper, lower = exp(-critical * 600 / 3600), 1 - exp(-follow * 600 / 3600)
     yield f"with gaps of {critical} and {follow} s, by Harders `v·exp(-{critical}v/3600)/(1 - exp(-{follow}v/3600))`"
-    yield (f"Until 07:30 {FEW:.0%} of that come, then {MANY:.0%}, over {short(length * 1000)} m at {speed} km/h. So too many come to the junction from "
-           f"{clock(7.5, length / speed * 3600)} on, and {short(30 - length / speed * 60)} minutes' worth of them wait at 08:00.").replace("%", " %")
+    yield (f"Until 07:30 {FEW:.0%} of that come, then {MANY:.0%}, over {short(length * 1000)} m at {speed} km/h. So the excess comes to the junction from "
+           f"{clock(7.5, length / speed * 3600)} on, and that of {short(30 - length / speed * 60)} minutes waits at 08:00.").replace("%", " %")
     yield f"At {half[0]} it is {half[0]}·{upper:.5f}/{lower:.5f}."
-    yield f"| [side street](#who-gives-way) at {half[0]} vehicles/h of priority: passes | {600 * upper / lower:.1f} vehicles/h | {half[2]} |"
+    yield f"| [side street](#giving-way) at {half[0]} vehicles/h of priority: passes | {600 * upper / lower:.1f} vehicles/h | {half[2]} |"
 
 
 @of(VALIDATION)
@@ -339,7 +339,7 @@ def a_permitted_left_turn():
     passes = against * upper / lower
     over = passes * (green - gone) / cycle
     yield (f"In a cycle of {cycle} s both directions are green for {green} s; {against} vehicles/h come towards the left turn, whose lane is its own. Their queue "
-           f"is gone after {against}·{green}/({most:,} - {against}) = {gone:.2f} s, so {green - gone:.2f} s of each cycle are left.")
+           f"clears after {against}·{green}/({most:,} - {against}) = {gone:.2f} s, so {green - gone:.2f} s of each cycle are left.")
     yield (f"In these pass {against}·exp(-{against}·{critical}/3600)/(1 - exp(-{against}·{follow}/3600)) = {against}·{upper:.5f}/{lower:.5f} = {passes:,.1f} vehicles/h: "
            f"over the cycle {over:.1f}, and {over + 2 * 3600 / cycle:.1f} with the 2 at the end of each green, as in the program.")
 
@@ -481,3 +481,13 @@ def kits():
         own, its_logic = subprocess.run(["rt", "version"], stdout=subprocess.PIPE, text=True, check=True).stdout.strip().split(" ", 1)
         assert f"`{own}`" in names and its_logic == logic
     return names
+
+
+@of(VALIDATION)
+def towns():
+    """What bench/towns wrote below its table."""
+    (near, formulas), (close, cases) = (re.search(rf"within {part} in (\d+) of (\d+)", read("bench/towns.txt")).groups()
+                                        for part in ("5 % of the manual", "a fifth of SUMO"))
+    assert cases == "30"
+    yield (f"Of [thirty cases of towns](../bench/towns.txt), what passes is within 5 % of the manual in {near} of {formulas}; "
+           f"delay is within a fifth of SUMO in {close}.")

@@ -1,5 +1,6 @@
 """Signals whose greens follow traffic: the cycle that they settle at, worked out on paper, and what a study can't mean."""
 
+import itertools
 import re
 from types import SimpleNamespace
 
@@ -7,7 +8,9 @@ import pytest
 
 from ctmtools import Problem, build, read_study
 from ctmtools.texts.amounts import PARTS
+from ctmtools.moments import actuated_signals
 from ctmtools.moments.actuated_signals import ActuatedSignals
+from ctmtools.moments.moment import Runner
 from ctmtools.program.calls import ask
 from ctmtools.runs.running import opened
 from ctmtools.study.plan import Actuation
@@ -113,6 +116,16 @@ def test_all_stop_lines_are_red_until_the_first_green_begins(tmp_path):
     assert [one.text for one in ActuatedSignals(build(study), study, None).reds] == ["limit,a30,0,10,0", "limit,b30,0,10,0"]
 
 
+@pytest.mark.parametrize("seconds, is_kept", [(0, False), (3, True)])
+def test_what_was_reached_is_kept_once_two_seconds_have_passed(tmp_path, program, monkeypatch, seconds, is_kept):
+    written, clock = [], itertools.count(0, seconds)  # which goes on by so much each time that it is read
+    monkeypatch.setattr(actuated_signals, "monotonic", lambda: next(clock))
+    monkeypatch.setattr(actuated_signals, "write", lambda path, _: written.append(path.name))
+    study = read_study(write(tmp_path)).scenario
+    ActuatedSignals(build(study), study, Runner("study"), tmp_path / "kept").run()
+    assert set(written) == ({"kept"} if is_kept else set())
+
+
 def test_a_bar_is_told_how_far_greens_have_come_and_there_is_none_without_runs(tmp_path, recording_program):
     shown, passed = [], []
 
@@ -151,7 +164,7 @@ def test_build_tells_that_its_greens_are_fixed(tmp_path, tool):
     ({"follow": "{ least = 5, most = 40 }"}, "phases[1].actuated.gap: is missing"),
     ({"more": 'yields = [{ movement = ["a", "x"], yields_to = [["b", "y"]] }]'}, "is permitted in no phase"),
     ({"follow": FOLLOW + ', permitted = [["a", "x"]]', "more": 'yields = [{ movement = ["a", "x"], yields_to = [["b", "y"]] }]'},
-     "who gives way at a signal does so in fixed greens, and those of this junction follow traffic")])
+     "a movement gives way at a signal in fixed greens alone, and those of this junction follow traffic")])
 def test_what_a_study_cant_mean_is_refused(tmp_path, changes, why):
     with pytest.raises(Problem) as refused:
         read_study(write(tmp_path, **changes))
@@ -265,13 +278,12 @@ yields_to = "before"
 
 
 def test_greens_follow_traffic_in_each_run_that_settles_who_gives_way(tmp_path, tool, recording_program):
-    path = write(tmp_path, more=SIDE_STREET)
-    found = opened(path)
+    write(tmp_path, more=SIDE_STREET)
+    status, out, _ = tool("run", "study.toml")
     # The greens are those of paper without a side street, and its limit that of Harders past 600 vehicles/h.
-    greens = settled_greens(found)
+    greens = settled_greens(SimpleNamespace(told=out.splitlines()))
     assert greens[:2] == pytest.approx([11.2, 8.8], abs=1.2) and greens[2] == pytest.approx(28, abs=2.4)
-    assert any(re.match(r"merges\[1\], side: 50[45] to \d+ vehicles/h may pass through gaps", line) for line in found.built.remarks)
-    status, _, _ = tool("run", "study.toml")
+    assert re.search(r"^\s*merges\[1\], side: 50[45] to \d+ vehicles/h may pass through gaps", out, re.MULTILINE)
     again = ask(("run", "--every", "1"), (tmp_path / "study.csv").read_bytes())
     assert status == 0 and again.out == (tmp_path / "study.report").read_bytes()
 

@@ -4,19 +4,21 @@ import csv
 import json
 import re
 from math import sqrt
+from types import SimpleNamespace
 
 import openpyxl
 import pytest
 
 from ctmtools import Problem
 from ctmtools.approaches.by_approach import by_approach, level
+from ctmtools.approaches.capacity import Passing
 from ctmtools.report.by_road import by_road
 from ctmtools.report.travel import road_times
 from ctmtools.runs.running import opened
 from ctmtools.units import read_units, units_text
 
 from .test_fixed_greens import APART, APPROACH, STOP_LINE, TOGETHER
-from .test_yield import SIDE, recorded, write
+from .test_yield import CROSSING, PERMITTED, SIDE, recorded, write
 
 TWO_WAYS = APPROACH.format(lanes=1, table="[1, 1, 1]", more=TOGETHER)
 
@@ -39,6 +41,12 @@ def random_part(flow, capacity, factor=4):
     (float("nan"), "signal", 0, "")])
 def test_levels_of_service_by_control_delay(delay, control, ratio, wanted):
     assert level(delay, control, ratio) == wanted
+
+
+def test_flows_are_counted_by_quarters_of_an_hour_where_no_interval_is_said():
+    units = SimpleNamespace(step=10.0, at_random=SimpleNamespace(interval=0), cycles={})
+    report = SimpleNamespace(units=units, steps=200, need_network=lambda: SimpleNamespace(cycles={}))
+    assert Passing(report, SimpleNamespace(line=""), "c").bounds.tolist() == [0, 90, 180, 200]
 
 
 def test_a_stop_line_has_the_delay_of_the_manual(tmp_path, recording_program):
@@ -96,6 +104,22 @@ def test_movements_share_the_delay_of_their_lane_and_add_up(tmp_path, recording_
     assert even == pytest.approx(report.delay_vehicle_hours, rel=1e-6)
 
 
+def test_who_stands_behind_a_permitted_left_turn_has_the_capacity_of_their_lane(tmp_path, recording_program):
+    # Half of 300 turn left, 2.5 in a cycle of 60 s, of whom the first comes after 30·exp(-0.860·2.5^0.629) - 2 = 4.494 s. From 8.57 s on,
+    # when the 400 who come towards them are gone, 1,286.0 pass, and 1.5 at the end: (4.494·1,800 + 21.43·1,286.0)/60 + 90 = 684.1.
+    text = CROSSING.format(more=PERMITTED.replace("SNEAKERS", "2"))
+    for old, new in (("shares = [[1, 0], [0, 1], [1, 1]]", "shares = [[1, 0], [1, 1], [1, 1]]"), ("demand = 600", "demand = 300"),
+                     ("x = { length = 0.2, lanes = 1", "x = { length = 0.2, lanes = 2")):
+        assert old in text
+        text = text.replace(old, new)
+    frame = by_approach(of(tmp_path, text), 900, by="movement")
+    south = frame[(frame.approach == "s") & (frame.step == frame.step.unique()[2])].set_index("movement")
+    assert south.capacity[["x", "y"]].tolist() == pytest.approx([342.05] * 2, rel=0.02)
+    assert south.ratio[["x", "y"]].tolist() == pytest.approx([300 / 684.1] * 2, rel=0.02)
+    # 225·(-0.56147 + sqrt(0.31525 + 4·0.43853/171.03)) = 2.04 s.
+    assert south.delay_random[["x", "y"]].tolist() == pytest.approx([2.04] * 2, rel=0.05)
+
+
 def test_a_movement_with_a_green_of_its_own_has_its_own_delay(tmp_path, recording_program):
     # The west movement, 50 of 400, has 20 s of 60 on a lane of its own: 600; the others, 350, 20 s on the other lane.
     frame = by_approach(of(tmp_path, APPROACH.format(lanes=2, table="[1, 1, 1]", more=APART)), by="movement")
@@ -135,6 +159,11 @@ def test_approaches_are_kept_with_the_units(tmp_path):
     path.write_text(units_text(units))
     assert read_units(path).approaches == units.approaches and read_units(path).within == units.within
     assert units.within["s-west1"] == units.within["s-fork1.1"] == "s" and units.within["n-west1"] == "n"
+
+
+def test_who_waits_at_a_red_light_alone_has_no_permitted_green(tmp_path):
+    approach, = opened(write(tmp_path, STOP_LINE.format(demand=450, more=""))).built.units.approaches
+    assert [one.control for one in approach.movements] == ["signal"]
 
 
 def test_a_network_without_units_has_no_approaches():

@@ -84,7 +84,7 @@ def test_it_is_told_that_an_assignment_did_not_settle_and_why(count, told, two_w
     alike = [replace(rounds[-1], number=number) for number in range(1, count + 1)]
     line, = not_settled(made, alike, 1e-9)
     assert line.startswith(f"warning: after {count} rounds the gap is {rounds[-1].gap.relative:.4f}, above 1e-09; {told}")
-    assert "; most of it is of home to work, setting out at 07:" in line
+    assert "; most of it is of drivers from home to work who depart at 07:" in line
 
 
 def test_rounding_is_told_where_it_moves_a_share_by_more_than_a_thousandth():

@@ -1,19 +1,22 @@
 """Assignments of studies at the edges of what they may be: nobody, few, for long, with queues at the start; and what is told."""
 
+from fractions import Fraction
 from types import SimpleNamespace
 
 import numpy
 import pytest
 
 from ctmtools import Problem, assign, read_report
+from ctmtools.assignment import courses
 from ctmtools.assignment.assigning import Round
-from ctmtools.assignment.messages import not_settled, pair_lines, settled_lines
+from ctmtools.assignment.messages import MOST_ROWS, not_settled, pair_lines, settled_lines
 from ctmtools.assignment.passing import _queued
 from ctmtools.assignment.task import measures
 from ctmtools.assignment.times import Gap
 from ctmtools.assignment.ways_file import WayRow, read_ways
 from ctmtools.plots.assignment import draw_gap
-from ctmtools.study.reading import read_values
+from ctmtools.study.plan import Routing
+from ctmtools.study.reading import read_scenario, read_values
 from ctmtools.units import Units
 
 from .test_assign import assigned
@@ -27,7 +30,7 @@ CLOSED = '[[closures]]\nroad = "short"\nfrom = 5\nto = 6\nlanes = 2\nstart = "07
 def test_trips_of_nobody_are_refused(tool, tmp_path, demand):
     (tmp_path / "s.toml").write_text(TWO_WAYS.replace(HOUR, demand))
     status, _, err = tool("assign", "s.toml")
-    assert status == 2 and "s.toml: trips: nobody sets out" in err and err.count("\n") == 1
+    assert status == 2 and "s.toml: trips: no vehicle departs" in err and err.count("\n") == 1
     assert [path.name for path in tmp_path.iterdir()] == ["s.toml"]
 
 
@@ -46,10 +49,17 @@ def test_an_interval_of_choice_may_be_longer_than_the_run(tmp_path, recording_pr
     assert rounds[-1].gap.all_ == pytest.approx(report.total.delay + report.cells.gone.sum(), rel=0.005)
 
 
-def test_who_sets_out_waits_for_those_who_stand_there_at_the_start(tmp_path, recording_program):
+@pytest.mark.parametrize("at_once", [courses.MOST_MOMENTS, 1])
+def test_who_sets_out_waits_for_those_who_stand_there_at_the_start(tmp_path, recording_program, monkeypatch, at_once):
+    monkeypatch.setattr(courses, "MOST_MOMENTS", at_once)
     made, _ = assigned(tmp_path, TWO_PAIRS.replace("lanes = 1, sections", "lanes = 1, first_density = 60, sections"))
     # 435 vehicles stand on 7.25 km, 15 pass in a minute and 20 come: who sets out at t leaves at (435 + 20 t) / 15 min.
     assert made.times[0][0, :2] / 6 == pytest.approx([(435 + 20 * t) / 15 - t for t in (2.5, 7.5)], abs=0.05)
+
+
+def test_an_interval_of_choice_lasts_five_minutes_and_all_are_informed_where_nothing_else_is_said(tmp_path):
+    (tmp_path / "s.toml").write_text(TWO_WAYS.replace('interval = "5 min"\n', ""))
+    assert read_scenario(tmp_path / "s.toml").routing == Routing(ways=8, interval=Fraction(5 * 60), informed=Fraction(1))
 
 
 def test_an_interval_of_choice_has_whole_steps_and_is_told(tool, tmp_path, recording_program):
@@ -61,7 +71,7 @@ def test_an_interval_of_choice_has_whole_steps_and_is_told(tool, tmp_path, recor
 def test_ways_that_find_no_room_are_told(tool, tmp_path, recording_program):
     (tmp_path / "s.toml").write_text(TWO_WAYS.replace("ways = 8", "ways = 1"))
     status, out, err = tool("assign", "s.toml")
-    assert status == 0 and "1 pairs have as many ways as routing.ways says, and quicker ones were found, as from home to work" in out, err
+    assert status == 0 and "1 pairs have as many routes as routing.ways says, and quicker ones were found, as from home to work" in out, err
 
 
 # The short way passes 1,000 vehicles/h by its fixed green of half a cycle, and more by one that lasts as long as who come need it.
@@ -87,9 +97,9 @@ def test_gap_and_times_are_those_of_the_run_of_the_written_study(tool, tmp_path,
 
 
 @pytest.mark.parametrize("yields, actuated, delay, gap, wanted", [
-    (True, False, 12, 0.01, "The run of the written study works out anew what passes of those who give way; it has 12 vehicle-hours of delay "
+    (True, False, 12, 0.01, "The run of the written study works out anew what gaps let pass; it has 12 vehicle-hours of delay "
      "and a gap of 0.01000, the last round 10 and 0.01000."),
-    (True, False, 10, 0.02, "The run of the written study works out anew what passes of those who give way; it has 10 vehicle-hours of delay "
+    (True, False, 10, 0.02, "The run of the written study works out anew what gaps let pass; it has 10 vehicle-hours of delay "
      "and a gap of 0.02000, the last round 10 and 0.01000."),
     (False, True, 12, 0.01, "warning: greens that follow traffic"), (True, True, 12, 0.01, "warning: greens that follow traffic"),
     (True, True, 10, 0.01, ""), (False, False, 12, 0.01, "")])
@@ -144,7 +154,7 @@ def opened(recording_program, tmp_path_factory):
 @pytest.mark.parametrize("after", ["08:00", "08:30", "12:00"])
 def test_a_time_after_which_nobody_sets_out_is_refused(opened, tmp_path, after):
     (tmp_path / "s.toml").write_text(TWO_WAYS.replace("3000]]", "1800]]") + CLOSED)
-    with pytest.raises(Problem, match="s.toml: --after: nobody sets out in an interval of choice that begins then or later"):
+    with pytest.raises(Problem, match="s.toml: --after: no driver departs in an interval of choice that begins then or later"):
         assign(tmp_path / "s.toml", earlier=opened, informed=1, after=after)
 
 
@@ -171,9 +181,9 @@ def test_nothing_that_a_user_made_is_written_over(tool, tmp_path, recording_prog
 
 
 @pytest.mark.parametrize("change, told", [
-    (lambda text: text.replace('"5 min"', '"10 min"'), "who set out at 07:05:00, at which no interval of choice begins here"),
-    (lambda text: text.replace("08:00", "08:10"), "has nobody from home to work who sets out at 08:00:00"),
-    (lambda text: text.replace("short", "other"), "the earlier assignment's ways from home to work.roads: there is no road short")])
+    (lambda text: text.replace('"5 min"', '"10 min"'), "who depart at 07:05:00, at which no interval of choice begins here"),
+    (lambda text: text.replace("08:00", "08:10"), "has no driver from home to work who departs at 08:00:00"),
+    (lambda text: text.replace("short", "other"), "the earlier assignment's routes from home to work.roads: there is no road short")])
 def test_an_earlier_assignment_of_other_trips_or_roads_is_refused(opened, tmp_path, change, told):
     (tmp_path / "s.toml").write_text(change(TWO_WAYS.replace("3000]]", "1800]]")))
     with pytest.raises(Problem, match=told):
@@ -196,7 +206,7 @@ def test_more_drivers_than_before_part_as_they_did(opened, tmp_path):
 
 
 @pytest.mark.parametrize("words, told", [
-    (("-o", "open.toml"), "open.toml: is the assignment whose ways the drivers have; name another file with -o"),
+    (("-o", "open.toml"), "open.toml: is the assignment whose routes the drivers have; name another file with -o"),
     (("--informed", "0,1", "-o", "od.csv"), "od.csv: stands there and isn't a table of several shares; name another file with -o"),
     (("--informed", "0,1", "-o", "none/t.csv"), "none/t.csv: there is no folder none"),
     (("--informed", "1", "--dask", "localhost:8786"), "--dask: a cluster makes several assignments")])
@@ -248,7 +258,7 @@ def test_times_on_the_ways_are_in_hours_of_all_and_minutes_of_each():
 @pytest.mark.parametrize("gap, moved, limits, told", [
     (0.02, 0, 0, "the gap is 0.0200, above 0.01;"), (0, 0.02, 0, "2.00% of what comes to branches still moves between them, above 0.01;"),
     (0, 0.01, 0, "1.00% of what comes to branches still moves between them, above 0.01;"),
-    (0, 0, 0.2, "what passes of those who give way still moves by 20.0%;")])
+    (0, 0, 0.2, "what gaps let pass still changes by 20.0%;")])
 def test_what_has_not_settled_is_told_with_what_it_is_above(gap, moved, limits, told):
     own = SimpleNamespace(choices=[], departures=SimpleNamespace(by_interval=[]), times=[], crowded=set(),
                           report=SimpleNamespace(sums=SimpleNamespace(inside=0)))
@@ -258,8 +268,17 @@ def test_what_has_not_settled_is_told_with_what_it_is_above(gap, moved, limits, 
 
 def test_the_picture_of_the_rounds_has_the_gap_above_and_the_delay_below():
     rounds = [Round(number, Gap(100 + more, 100, 0), 0, delay, 0) for number, more, delay in ((1, 10, 7), (2, 1, 5))]
-    drawn = [[line.get_xydata().tolist() for line in axes.lines] for axes in draw_gap(rounds, "s").axes]
+    upper, lower = draw_gap(rounds, "s").axes
+    drawn = [[line.get_xydata().tolist() for line in axes.lines] for axes in (upper, lower)]
     assert drawn == [[[[1, pytest.approx(0.1)], [2, pytest.approx(0.01)]]], [[[1, 7], [2, 5]]]]
+    assert upper.get_title(loc="left").startswith("s: time of drivers beyond the best routes") and lower.get_title(loc="left") == ""
+
+
+def test_ways_beyond_those_that_are_told_are_counted():
+    rows = [WayRow("a", "b", "07:00:00", number, 1.0, 3.0, (f"r{number}",)) for number in range(1, MOST_ROWS + 4)]
+    lines = list(pair_lines(rows))
+    assert lines[-1] == "  and 3 more routes" and sum(line.startswith("  a ") for line in lines) == MOST_ROWS
+    assert not list(pair_lines(rows[:MOST_ROWS]))[-1].endswith("more routes")
 
 
 def test_of_the_roads_of_a_way_sixty_letters_are_told():

@@ -59,7 +59,7 @@ def test_drivers_leave_a_side_street_that_passes_less_than_they_are(tmp_path, to
     (tmp_path / "study.toml").write_text(STUDY)
     status, out, err = tool("assign", "study.toml", "--iterations", "30")
     assert status == 0, err
-    assert "merges[1], side: " in out and "vehicles/h may pass through gaps" in out and "nobody gives way" not in out
+    assert "merges[1], side: " in out and "vehicles/h may pass through gaps" in out and "doesn't give way" not in out
     with open("study.assigned.ways.csv") as file:
         rows = list(csv.DictReader(line for line in file if not line.startswith("#")))
     side = [float(row["vehicles"]) for row in rows if "side" in row["roads"] and "07:20:00" <= row["start"] < "07:50:00"]

@@ -8,6 +8,7 @@ import re
 import resource
 import threading
 import time
+from pathlib import Path
 
 import ctmtools
 import pytest
@@ -43,6 +44,11 @@ def few():
     token = MOST.set(1)
     yield
     MOST.reset(token)
+
+
+def test_packed_input_may_have_512_mib_as_the_pages_say():
+    page = (Path(ctmtools.__file__).parents[1] / "docs" / "detectors.md").read_text()
+    assert f"A file of more than {MOST.get()} MiB unpacked needs `--most-unpacked MIB`" in page
 
 
 def test_packed_input_has_a_bound(tmp_path, few):

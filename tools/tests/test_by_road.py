@@ -78,7 +78,7 @@ def test_without_units_there_are_gates_alone():
 
 
 def test_spans_shorter_than_the_records_are_refused(tmp_path):
-    with pytest.raises(Problem, match="--interval: is less than the way"):
+    with pytest.raises(Problem, match="--interval: is less than the time from record to record"):
         by_road(reported(corridor(tmp_path), every=6), 30)
 
 

@@ -4,11 +4,13 @@ import json
 
 import pytest
 
+from ctmtools.network_file.network import network_of
 from ctmtools.problem import Problem
 from ctmtools.program.calls import ask
-from ctmtools.report.reading import read_report
+from ctmtools.report.reading import read_report, unlike_network
 
 from .corridor import corridor_text
+from .plain_reports import plain_report
 
 STUDY = corridor_text()
 
@@ -107,6 +109,12 @@ def test_an_older_file_of_units_is_held_against_its_network(tool, program, tmp_p
     assert tool("table", "s.report", "--totals")[0] == 0
     (tmp_path / "s.csv").write_text((tmp_path / "s.csv").read_text().replace("steps,360", "steps,180"))
     assert "isn't of the network s.csv: it has 360 steps, and not 180" in tool("table", "s.report")[2]
+
+
+def test_a_gate_to_which_nobody_comes_is_as_its_network_has_it():
+    text = "ctm,1\nsteps,9\ngate,g,9,0\ngate,h,9,0\nroad,a,60,9,1,5,0\nroad,b,60,9,1,5,0\nexit,x,9\nexit,y,9\nlink,g,a\nlink,h,b\n" \
+        "link,a,x\nlink,b,y\ndemand,g,0,4,1\n"
+    assert unlike_network(plain_report(text), network_of(text.encode())) is None
 
 
 def test_a_demand_of_another_day_is_seen_in_what_came(tool, program, tmp_path):

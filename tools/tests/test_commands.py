@@ -167,6 +167,12 @@ def test_the_launcher_takes_a_python_that_has_the_packages():
     assert ended.returncode == 0 and "lint" in ended.stdout
 
 
+def test_a_python_without_the_packages_becomes_one_that_has_them(tmp_path):
+    subprocess.run([sys.executable, "-m", "venv", "--without-pip", tmp_path / "bare"], check=True)
+    ended = subprocess.run([tmp_path / "bare/bin/python", "-I", TOOLS, "lint", "none.csv"], capture_output=True, text=True)
+    assert ended.returncode == 2 and ended.stderr == "ctm-tools: none.csv: no such file or directory\n"
+
+
 def test_a_missing_package_is_named(tmp_path):
     bare = tmp_path / "python3"
     bare.write_text("#!/bin/bash\necho pandas networkx\n")

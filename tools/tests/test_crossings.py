@@ -21,7 +21,7 @@ from .test_junctions import PHASES, THREE, built, records
     (PHASES.format('{ green = 0 }'), "phases[1].green: from 0 to 0 s is not within the cycle"),
     ('phases = [{ green = 10 }]\n', "junctions[1].cycle: is missing; phases and a cycle go together"),
     ('turns = [{ start = "06:30", shares = [[1, 1, 1], [0, 1, 0], [1, 0, 1]] }, { end = "06:10", shares = [[1, 1, 1], [0, 0, 0], [1, 0, 1]] }]\n',
-     "junctions[1].turns[2].shares: nobody drives on from e"),
+     "junctions[1].turns[2].shares: no vehicle drives on from e"),
     ("lanes = [[1, 1, 1], [0, 1.5, 0], [1, 0, 1]]\n", "junctions[1].lanes: expected whole numbers, found 1.5")])
 def test_what_is_blamed(tmp_path, more, told):
     with pytest.raises(Problem) as found:

@@ -51,6 +51,14 @@ def test_an_interval_takes_the_records_within_it(tmp_path):
     assert found.flow.tolist() == [720, 0, 0] and found.speed[0] == pytest.approx(90) and numpy.isnan(found.speed[1])
 
 
+def test_an_interval_takes_the_records_of_its_own_seconds(tmp_path):
+    made = corridor(tmp_path, demand='[["06:00", "06:01", 720]]', end="06:03", head=HEAD.replace("step = 10", "step = 1"))
+    spans = ("06:00:02,06:01:02", "06:00,06:00:02", "06:01:02,06:02")
+    (tmp_path / "d.csv").write_text("place,start,end,flow\n" + "".join(f"m.0.025,{span},1\n" for span in spans))
+    # 0.2 in each of the steps 2 to 61 leave the first cell, of 25 m.
+    assert modelled(reported(made), read_observed(tmp_path / "d.csv")).flow.tolist() == pytest.approx([720, 0, 0])
+
+
 @pytest.mark.parametrize("count, each", [(1, 1), (3, 1), (4, 2), (8, 2), (9, 3)])
 def test_a_grid_of_two_keys_has_a_square_of_points(count, each):
     grid = around(2, count)

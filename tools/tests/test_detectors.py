@@ -220,7 +220,7 @@ def test_days_of_23_and_25_hours_are_told(tmp_path):
     assert told[1:] == ["2019-03-10 has 23 hours in America/Los_Angeles"]
     assert "missing: 1 intervals" in read_detectors(tmp_path / "s.csv").attrs["told"][1]
     (tmp_path / "a.csv").write_text(day_of("2019-11-03", autumn))
-    assert "or were the clocks put back, which zone tells?" in problem(read_detectors, tmp_path / "a.csv")
+    assert "or were the clocks put back, for which say zone?" in problem(read_detectors, tmp_path / "a.csv")
     found = read_detectors(tmp_path / "a.csv", zone="America/Los_Angeles")
     assert len(found) == 24 and "2019-11-03 has 25 hours in America/Los_Angeles" in found.attrs["told"]
     assert any(line.startswith("left out: 1 by an hour that comes again") for line in found.attrs["told"])

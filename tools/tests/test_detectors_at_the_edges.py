@@ -9,6 +9,7 @@ import pytest
 
 from ctmtools import Problem, read_detectors
 from ctmtools.detectors.reading import _places
+from ctmtools.detectors.table import named_days
 
 HEAD = "station,time,count\n"
 ROW = "a,2019-12-04 06:00,30\n"
@@ -114,13 +115,27 @@ def test_a_holiday_that_is_named_is_taken_and_not_told_as_left_out(tmp_path):
 
 
 @pytest.mark.parametrize("shares, wanted", [(("0.05", "12", "15"), "line 3, occ (share): 12 is no share, and most of its values aren't; are they in %?"),
-                                            (("", "12", ""), "line 3, occ (share): 12 is no share"), (("0.05", "0.06", "12"), None), (("1", "1.0", ""), None)])
+                                            (("", "12", ""), "line 3, occ (share): 12 is no share"),
+                                            (("0.05", "0.06", "12"), None), (("0.05", "0.06", "0.07", "12", "15"), None),
+                                            (("1", "1.0", ""), None)])
 def test_per_cent_that_are_called_shares_are_refused(tmp_path, shares, wanted):
     path, = written(tmp_path, o="time,count,occ (share)\n" + "".join(f"2019-12-04 06:0{i},5,{share}\n" for i, share in enumerate(shares)))
     if wanted:
         assert wanted in refusal(path)
     else:
-        assert len(read_detectors(path)) == 3
+        assert len(read_detectors(path)) == len(shares)
+
+
+def test_files_without_dates_are_of_those_of_their_names(tmp_path):
+    paths = written(tmp_path, **{f"A7-1_2019-{day}": "time,count\n06:00,5\n06:05,6\n" for day in ("11-30", "12-01")})
+    times = read_detectors(paths).time.dt.strftime("%Y-%m-%d %H:%M").tolist()
+    assert times == [f"2019-{day} 06:0{minute}" for day in ("11-30", "12-01") for minute in (0, 5)]
+
+
+@pytest.mark.parametrize("days, told", [
+    (["2019-12-04", "x", "y"], "2019-12-04, 2 texts that are no date"), (["2019-12-04"], "2019-12-04"), (["x"], "1 text that")])
+def test_days_are_told_by_their_dates_and_other_texts_by_their_number(days, told):
+    assert named_days(days).startswith(told)
 
 
 def test_rows_at_the_limits_of_the_rules_are_kept(tmp_path):

@@ -5,6 +5,7 @@ import re
 import shutil
 import subprocess
 import sys
+from functools import cache
 
 import pytest
 
@@ -13,7 +14,7 @@ from .examples import TOOLS
 TOP = TOOLS.parent
 COMMANDS_IN = {"docs/TUTORIAL.md": 9, "docs/how-to/signals.md": 2, "docs/how-to/closures.md": 4, "docs/how-to/sumo.md": 3,
                "docs/how-to/detectors.md": 3, "docs/how-to/how-sure.md": 1, "docs/how-to/other-ways.md": 2,
-               "docs/how-to/fast.md": 1, "docs/how-to/open.md": 0, "README.md": 8, "tools/README.md": 9, "examples/README.md": 18, "tools/docs/measures.md": 6,
+               "docs/how-to/fast.md": 1, "docs/how-to/open.md": 0, "README.md": 8, "tools/README.md": 9, "examples/README.md": 17, "tools/docs/measures.md": 6,
                "tools/docs/networks.md": 1, "tools/docs/calibration.md": 0, "tools/docs/saved.md": 6,
                "tools/docs/plans.md": 2, "tools/docs/pages.md": 3, "tools/docs/counts.md": 0, "tools/docs/detectors.md": 1, "tools/docs/queues.md": 0, "tools/docs/sweeps.md": 1,
                "tools/docs/python.md": 0, "tools/docs/units.md": 0, "tools/docs/uncertainty.md": 1, "tools/docs/routes.md": 2,
@@ -209,17 +210,18 @@ def stand_together(lines, text):
 
 def texts_shown(top, program, before, calls):
     """What an excerpt may be of: what each call writes, or all, with the numbers of steps that stand before it, or a file."""
-    steps = re.findall(r"`steps,(\d+)`", before) or [None]
+    steps = (*re.findall(r"`steps,(\d+)`", before),) or (None,)
     written = [written_at(top, program, call, steps) for call in calls]
-    return [*written, "".join(written) if steps != [None] else "", *(read(file_of(call)) for call in calls)]
+    return [*written, "".join(written) if steps != (None,) else "", *(read(file_of(call)) for call in calls)]
 
 
 def file_of(call):
     return re.findall(r"examples/\S+", call)[-1]
 
 
+@cache
 def written_at(top, program, call, steps):
-    """What a call writes of its file with each of these numbers of steps, or as the file stands."""
+    """What a call writes of its file with each of these numbers of steps, or as the file stands. Each call is made once."""
     calls = [f"sed 's/^steps,.*/steps,{number}/' {file_of(call)} | ./ctm run" if number else call for number in steps]
     return "".join(ended(top, program, "bash", "-c", it)[1] for it in calls)
 
@@ -232,7 +234,7 @@ def test_the_excerpts_of_the_examples_are_what_the_commands_above_them_write(top
             continue
         excerpts += 1
         assert any(stand_in_order(lines, text) for text in texts_shown(top, recording_program, before, calls)), lines
-    assert excerpts == 21
+    assert excerpts == 18
 
 
 def test_the_tutorial_shows_what_its_commands_print(top, recording_program):

@@ -244,7 +244,7 @@ def test_those_give_way_in_a_draw_who_do_in_a_run(tool, recording_program, tmp_p
     path = written(tmp_path, (EXAMPLES / "village-stop.toml").read_text() +
                    f'[[uncertain]]\nkey = "demand"\nfactor = "given"\nvalues = [{factor}]\n')
     status, out, err = tool("draw", path, "--runs", "1", "-j", "1")
-    assert status == 0 and "nobody gives way" not in out, err
+    assert status == 0 and "doesn't give way" not in out, err
     assert pandas.read_csv("s.draw/draws.csv").delay_vehicle_hours[0] == pytest.approx(wanted, rel=0.006)
 
 

@@ -45,7 +45,7 @@ def test_curves_that_are_shifted_and_have_a_flow_taken_off():
     assert curves._lags(report, ["g", "a"]) == [2, 0] and curves._lags(report, ["a"]) == [0]
     with pytest.raises(Problem, match="a flow in vehicles/h can't be taken off"):
         curves.draw(light(), background=1)
-    with pytest.raises(Problem, match="no way leads from x to g"):
+    with pytest.raises(Problem, match="no route leads from x to g"):
         curves.draw(light(), ["x", "g"], shifted=True)
 
 
@@ -101,6 +101,12 @@ def test_what_stands_beside_a_route(report):
     marks = roadside.junctions(read, cells)
     # Behind m24 the off-ramp r leaves, behind m28 the on-ramp a joins.
     assert [mark for mark in marks if "lanes" not in mark[1]] == [(2, "r leaves"), (6, "a joins")]
+
+
+def test_a_line_in_a_narrow_picture_has_twenty_letters_however_wide_they_are():
+    axes = figure.figure(size=(1, 1))[1]
+    figure.note(axes, 45 * "W")
+    assert axes.get_xlabel().split("\n") == [20 * "W", 20 * "W", 5 * "W"]
 
 
 def test_a_time_space_diagram_of_a_light():

@@ -3,7 +3,10 @@
 import csv
 import io
 import re
+import shutil
 
+import numpy
+import pandas
 import pytest
 
 from ctmtools import read_study
@@ -12,7 +15,7 @@ from ctmtools.report.reading import read_report
 from ctmtools.runs.running import opened
 from ctmtools.study.network_text import build
 from ctmtools.yielding.gaps import at_signal
-from ctmtools.yielding.fixed_greens import lane_groups, waits_at_greens
+from ctmtools.yielding.fixed_greens import _green_parts, lane_groups, waits_at_greens
 
 from .test_yield import LANE, recorded, write
 
@@ -99,6 +102,13 @@ def test_lanes_closed_at_the_stop_line_leave_less(tmp_path, recording_program, l
     assert 3600 * one.hours / one.vehicles == pytest.approx(wanted, rel=0.03)
 
 
+def test_a_limit_within_a_cycle_leaves_what_of_the_green_lies_behind_it():
+    # Green in the steps 2 to 5 of each 10; nobody passes in the first 4, and half as many may in the fourth from the end.
+    signal = pandas.Series({"cycle": 10, "offset": 0, "from": 2, "to": 6})
+    found = _green_parts(signal, [(0, 4, 0.0), (13, 14, 1.0)], 2.0, numpy.array([0.0, 10, 20]))
+    assert found.tolist() == pytest.approx([2 / 10, 3.5 / 10])
+
+
 LANE_GROUPS = {  # the lanes of the approach and of its movements, how they are green, and the groups with their lanes
     "each has a lane of its own": (3, "[1, 1, 1]", TOGETHER, {"s to east": 1, "s to ahead": 1, "s to west": 1}),
     "one lane for all": (1, "[1, 1, 1]", TOGETHER, {"s to east, ahead, west": 1}),
@@ -149,11 +159,22 @@ def test_those_who_give_way_at_the_same_signal_are_told_once(tmp_path, recording
     assert 3600 * found[0].hours / found[0].vehicles == pytest.approx(1.265, rel=0.05)
 
 
+@pytest.fixture(scope="module")
+def run_once(tmp_path_factory):
+    """The folder of the run of the left turn, and what it told once it has been made."""
+    return tmp_path_factory.mktemp("left-turn"), []
+
+
 @pytest.fixture
-def left_turn(tmp_path, tool, recording_program):
+def left_turn(tmp_path, tool, recording_program, run_once):
     """What `run` tells below its page of a signal with a permitted left turn, from a folder with its report study.report."""
-    _, out, _ = tool("run", write(tmp_path, APPROACH.format(lanes=2, table="[1, 1, 1]", more=PERMITTED)))
-    return out[out.index("\nLost at fixed greens"):out.index("\n\nReport ")]
+    kept, told = run_once
+    if told:
+        shutil.copytree(kept, tmp_path, dirs_exist_ok=True)
+    else:
+        told.append(tool("run", write(tmp_path, APPROACH.format(lanes=2, table="[1, 1, 1]", more=PERMITTED)))[1])
+        shutil.copytree(tmp_path, kept, dirs_exist_ok=True)
+    return told[0][told[0].index("\nLost at fixed greens"):told[0].index("\n\nReport ")]
 
 
 def cells_told(told):
@@ -163,9 +184,10 @@ def cells_told(told):
 
 def test_the_page_for_a_browser_has_the_words_and_numbers_of_run(left_turn):
     found, = greens_of([read_report("study.report")], ["study"])
-    assert re.fullmatch(r"Lost at fixed greens .*: \d\.\d\d vehicle-hours, with those who give way \d\.\d\d", found["head"])
+    assert re.fullmatch(r"Lost at fixed greens .*: \d\.\d\d vehicle-hours, \d\.\d\d with movements that give way", found["head"])
     assert left_turn.strip().splitlines()[0] == found["head"]
-    assert cells_told(left_turn) == [[cell for cell in row if cell] for row in [found["columns"], *found["rows"]]]
+    shown = [[cell for cell in row if cell] for row in [found["columns"], *found["rows"]]]
+    assert [[cell.removeprefix("junctions[1], ") for cell in row] for row in cells_told(left_turn)] == shown
 
 
 def test_a_table_by_lane_groups_has_the_numbers_of_run(left_turn, tool):
@@ -193,7 +215,7 @@ def test_a_network_that_was_edited_has_its_own_loss_at_greens_and_no_longer_that
     *words, amount = gate.split(",")
     network.write_text(text.replace(gate, ",".join([*words, f"{float(amount) / 2:g}"])))
     _, out, _ = tool("run", "study.csv", "-o", "half.report")
-    assert "Lost at fixed greens" in out and "with those who give way" not in out and left_turn not in out
+    assert "Lost at fixed greens" in out and "with movements that give way" not in out and left_turn not in out
 
 
 def test_a_network_of_build_tells_it_too(tmp_path, tool, plain):
@@ -204,11 +226,11 @@ def test_a_network_of_build_tells_it_too(tmp_path, tool, plain):
 
 
 def test_two_reports_compared_tell_what_each_loses_at_random(left_turn, tool):
-    greens, both = map(float, re.search(r"delay: ([\d.]+) vehicle-hours, with those who give way ([\d.]+)", left_turn).groups())
+    greens, both = map(float, re.search(r"delay: ([\d.]+) vehicle-hours, ([\d.]+) with movements that give way", left_turn).groups())
     _, out, _ = tool("compare", "study.report", "study.report")
     rows = {row[0]: row[1:] for row in cells_told(out[out.index("Lost by coming at random"):])}
     assert rows["at fixed greens"] == [f"{greens:.2f}", f"{greens:.2f}", "0"]
-    assert float(rows["by those who give way"][0]) == pytest.approx(both - greens, abs=0.011)
+    assert float(rows["where streams give way"][0]) == pytest.approx(both - greens, abs=0.011)
 
 
 def test_what_is_not_known_is_not_compared(left_turn, tool):

@@ -7,6 +7,7 @@ import pytest
 from ctmtools import Problem, read_report
 from ctmtools.exports.geojson import collection
 from ctmtools.report.by_road import by_road
+from ctmtools.study.coordinates import flat
 
 from .corridor import HEAD, corridor
 from .examples import save_report
@@ -75,6 +76,17 @@ def test_points_of_a_coordinate_system_are_written_in_degrees(tmp_path, crs, poi
     assert rows["m2"][-1] == pytest.approx([13.405, 52.52], abs=1e-5)
 
 
+@pytest.mark.parametrize("crs, points, wanted, places", [
+    ("EPSG:25833", UTM, "EPSG:25833", UTM), ("EPSG:4326", CENTRE, "EPSG:32633", UTM),
+    # A grid in feet of 0.3048006096 m; these are on 74° W, in zone 18.
+    ("EPSG:2263", [[984250.0, 200000.0]], "EPSG:32618", None)])
+def test_points_in_metres_to_the_east_and_north_stay_as_they_are(crs, points, wanted, places):
+    found, moved = flat([(x, y) for x, y in points], crs, "crs")
+    assert found == wanted
+    if places:
+        assert moved == [pytest.approx((x / 1000, y / 1000), abs=1e-5) for x, y in places]
+
+
 def test_points_without_a_system_are_told_as_local(tmp_path):
     report = made(tmp_path)
     assert collection(report)["units"]["coordinates"] == "local, of a schematic map in km"
@@ -100,4 +112,4 @@ def test_the_command(tool, reports, tmp_path):
         f"i.geojson: {len(read['features']):,} lines; coordinates are local, of a schematic map in km\n"
     assert read["units"]["density"] == "vehicles/km" and read["features"][0]["geometry"]["type"] == "LineString"
     assert "its name ends with .geojson" in tool("export", "geojson", reports("interchange"), "-o", "i.csv")[2]
-    assert "is less than the way from record to record" in tool("export", "geojson", reports("interchange"), "--every", "1")[2]
+    assert "is less than the time from record to record" in tool("export", "geojson", reports("interchange"), "--every", "1")[2]

@@ -174,8 +174,8 @@ def test_streets_that_only_cross_become_one_junction(import_net):
 
 
 @pytest.mark.parametrize("terms, why", [
-    ({"sign": "w"}, "at an all-way stop nobody has priority: s to p"),
-    ({"sign": "Z"}, "they merge in turn with those whom they meet: s to p"),
+    ({"sign": "w"}, "at an all-way stop no stream has priority: s to p"),
+    ({"sign": "Z"}, "they merge in turn with the streams that they meet: s to p"),
     ({"speed": 30}, "streams that meet at more than 80 km/h don't take gaps as on streets: s to p")])
 def test_who_cant_give_way_is_told_with_the_reason(import_net, terms, why):
     out = import_net(**terms)
@@ -234,7 +234,7 @@ def test_a_street_alone_at_a_signal_follows_traffic_too(import_net):
 
 
 @pytest.mark.parametrize("phases, why", [
-    (("GgGr", "rrrG"), "some are green there for who gives way: J"),
+    (("GgGr", "rrrG"), "some are green there while they give way: J"),
     (("GrGr", "rGrG"), "movements of one approach have greens of their own: J")])
 def test_greens_that_cant_follow_traffic_are_fixed_and_told(import_net, phases, why):
     out = import_net(*phases, logic="actuated", limits='minDur="5" maxDur="45"')
@@ -283,9 +283,9 @@ def test_a_node_of_gmns_at_which_all_stop_is_told(tool, tmp_path):
     node = node.replace("1,0,0\n", "1,0,0,\n").replace("3,3218,0\n", "3,3218,0,\n").replace("4,1609,1609\n", "4,1609,1609,\n")
     movement = TABLES["movement"].replace("signal", "")
     _, out, _ = gmns(tool, tmp_path, {**UNSIGNALLED, "node": node, "movement": movement})
-    assert f"3 {UNOPPOSED}at an all-way stop nobody has priority: a to c, a to d, b to c\n" in out
+    assert f"3 {UNOPPOSED}at an all-way stop no stream has priority: a to c, a to d, b to c\n" in out
     _, out, _ = gmns(tool, tmp_path, {**UNSIGNALLED, "node": node.replace("stop_4_way", "stop_2_way"), "movement": movement})
-    assert "1 nodes have a ctrl_type, as stop_2_way, and no movement that says who gives way: 2\n" in out
+    assert "1 nodes have a ctrl_type, as stop_2_way, and no movement that says which gives way: 2\n" in out
 
 
 UNTIMED = "1 nodes have ctrl_type signal and no times of one, so all movements are green at all times and the delay is too low: 2\n"
@@ -308,12 +308,12 @@ def test_a_signal_of_gmns_without_times_is_told(tool, tmp_path, tables, told):
 def test_a_node_of_gmns_without_movements_does_not_lose_its_control_without_a_word(tool, tmp_path, control):
     tables = {name: text for name, text in UNSIGNALLED.items() if name != "movement"}
     _, out, _ = gmns(tool, tmp_path, {**tables, "node": node_with(control)})
-    assert f"1 nodes have a ctrl_type, as {control}, and no movement that says who gives way: 2\n" in out
+    assert f"1 nodes have a ctrl_type, as {control}, and no movement that says which gives way: 2\n" in out
 
 
 def test_a_node_of_gmns_where_nobody_has_priority_is_told(tool, tmp_path):
     _, out, _ = gmns(tool, tmp_path, {**UNSIGNALLED, "movement": TABLES["movement"].replace("signal", "stop")})
-    assert "3 movements give way by their ctrl_type, and so do all whom they meet, so none has priority: a to c, a to d, b to c\n" in out
+    assert "3 movements give way by their ctrl_type, and so do all that they meet, so none has priority: a to c, a to d, b to c\n" in out
 
 
 def test_a_control_that_gmns_doesnt_know_is_refused_with_its_place(tool, tmp_path):

@@ -2,10 +2,10 @@
 
 import pytest
 
-from ctmtools import run
+from ctmtools import read_report
 
 FORK = """title = "A fork"
-step = 2
+step = 6
 start = "07:00"
 end = "08:00"
 [lane]
@@ -39,19 +39,19 @@ def test_what_is_waited_for_one_branch_while_the_other_is_free(tool, tmp_path, r
     # Half of 1,500 drive to b, which lets 600 through, so 1,200 pass in all. For 30 min 300 an hour come to wait, 150, who pass in
     # 150/1,200 h: (0.5 + 0.125)·150/2 = 46.9 vehicle-hours.
     status, out, _ = tool("run", "s.toml")
-    lines = [line for line in out.splitlines() if "is free: who drives there waits too" in line]
+    lines = [line for line in out.splitlines() if "is free: vehicles bound for that one wait too" in line]
     assert status == 0 and bool(lines) == told
     if told:
         before, hours = lines[0].split(" vehicle-hours ")[0].rsplit(" ", 1)
-        assert before == "Before a144 (a km 4.00)" and float(hours) == pytest.approx(46.9, rel=0.02)
+        assert before == "Before a48 (a km 4.00)" and float(hours) == pytest.approx(46.9, rel=0.02)
         assert "are waited for b1 while c1 is free" in lines[0]
-        assert run("s.toml").delay_vehicle_hours == pytest.approx(46.9, rel=0.02)
+        assert read_report("s.report").delay_vehicle_hours == pytest.approx(46.9, rel=0.02)
 
 
 @pytest.mark.parametrize("change", [("shares = [1, 1]", "shares = [1, 0]"), ("road = \"b\"", "road = \"a\"")])
 def test_a_queue_that_no_diverge_makes_is_not_told_so(tool, tmp_path, recording_program, change):
     (tmp_path / "s.toml").write_text(FORK.replace("LEFT", "600").replace(*change))
     out = tool("run", "s.toml")[1]
-    told = "is free: who drives there waits too" in out
+    told = "is free: vehicles bound for that one wait too" in out
     # Where nobody drives to c they wait for b, of whom some might.
     assert told == (change[0] == "shares = [1, 1]")

@@ -100,7 +100,7 @@ def test_trips(files):
     told = {(" ".join(trip.route), trip.begin, trip.end, round(trip.vehicles, 6)) for trip in found.trips}
     assert told == {("a c e", 0, 3600, 360), ("a d", 900, 1800, 90), ("b c", 0, 3600, 180), ("a d", 100, 100, 1),
                     ("b c e", 200, 200, 1)}
-    assert "town.rou.xml: 1 vehicles without a way over the network are left out, as trip 6 from d to a, where no way is" in \
+    assert "town.rou.xml: 1 vehicles without a route over the network are left out, as trip 6 from d to a, which no connection joins" in \
         found.notes
     assert "vehicles that take 14.5 m take as much as the others" in found.notes
 
@@ -108,7 +108,7 @@ def test_trips(files):
 def test_the_study(tool, files):
     status, out, err = tool("import", "sumo", "town.net.xml", "--routes", "town.rou.xml", "--step", "2", "-o", "town.toml")
     assert status == 0 and out.splitlines()[0] == "town.toml: 5 streets, 1 signals, 632 vehicles"
-    assert any("1 of 6 streets, on which nobody drives, are left out" in line for line in out.splitlines())
+    assert any("1 of 6 streets, on which no vehicle drives, are left out" in line for line in out.splitlines())
     made = build(read_study("town.toml"))
     # A step of 2 s at 12.5 m/s is 25 m: a has 10 cells. Who ends at c leaves there, so that c and e are no one road.
     assert {road: len(cells) for road, cells in made.units.roads.items()} == {

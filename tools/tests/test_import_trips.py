@@ -68,10 +68,10 @@ def test_a_pair_is_parted_by_the_weights_of_its_streets_and_one_without_a_way_is
     (net / "t.taz.xml").write_text('<additional><taz id="1"><tazSource id="in" weight="2"/><tazSink id="in" weight="1"/></taz><taz id="2">'
                                    '<tazSource id="up" weight="1"/><tazSink id="up" weight="1"/><tazSink id="low" weight="3"/></taz></additional>')
     found = read_network(net / "n.net.xml")
-    # A quarter of 40 goes to up, the others to low; no way leads from up to in.
+    # A quarter of 40 goes to up, the others to low; no route leads from up to in.
     put_trips(found, read_districts(found, net / "t.taz.xml"), (0, 900, [("1", "2", 40), ("2", "1", 7)]), "m.od", 900)
     assert [(trip.route, trip.vehicles) for trip in found.trips] == [(["in", "up"], 10), (["in", "low"], 30)]
-    assert found.notes[-1] == "m.od: 7 vehicles without a way over the network are left out" and found.said[-1].kept == 40
+    assert found.notes[-1] == "m.od: 7 vehicles without a route over the network are left out" and found.said[-1].kept == 40
 
 
 @pytest.mark.parametrize("matrix, told", [
@@ -140,7 +140,7 @@ def test_the_ways_are_those_of_cars_from_end_to_end(tool, net):
     assert status == 0, err
     assert set(read_study(net / "n.toml").roads) == {"in", "up", "low", "out"}
     assert out.startswith("n.toml: 4 streets, 0 signals, 90 vehicles\n")
-    assert "1 vehicles without a way over the network are left out, as vehicle 2 over bus" in out
+    assert "1 vehicles without a route over the network are left out, as vehicle 2 over bus" in out
 
 
 # 100 vehicles in half an hour are 200 vehicles/h, and in ten hours 10.

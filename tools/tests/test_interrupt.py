@@ -15,6 +15,7 @@ from launched import slowness
 
 from .examples import EXAMPLES, TOOLS
 from .test_actuated import FOLLOW, STUDY
+from .test_meter import METER, RAMP, small
 
 SOON = 2.0  # seconds, on a machine that has nothing else to do
 STREET = str(EXAMPLES / "arterial-0.toml")
@@ -150,14 +151,15 @@ def test_what_was_done_is_kept_and_the_same_call_goes_on(tool, tmp_path, program
 
 
 def test_a_metered_run_goes_on_to_the_same_rates(tool, tmp_path, program):
-    words = ["meter", EXAMPLES / "feedback.toml", "--rates", "rates.csv"]
+    small(tmp_path, RAMP + METER)
+    words, names = ["meter", "study.toml", "--rates", "rates.csv"], ("rates.csv", "study-metered.report", "study-metered.csv")
     assert interrupted(tmp_path, words, stand_in(tmp_path, program, 12, "exec sleep 1000"))[0] == 130
-    assert (tmp_path / "feedback-metered.meter.json").exists()
+    assert (tmp_path / "study-metered.meter.json").exists()
     assert tool(*words)[0] == 0
-    gone_on = [(tmp_path / name).read_bytes() for name in ("rates.csv", "feedback-metered.report", "feedback-metered.csv")]
-    assert not (tmp_path / "feedback-metered.meter.json").exists()
+    gone_on = [(tmp_path / name).read_bytes() for name in names]
+    assert not (tmp_path / "study-metered.meter.json").exists()
     assert tool(*words)[0] == 0
-    assert gone_on == [(tmp_path / name).read_bytes() for name in ("rates.csv", "feedback-metered.report", "feedback-metered.csv")]
+    assert gone_on == [(tmp_path / name).read_bytes() for name in names]
 
 
 def test_a_run_of_greens_goes_on_to_the_same_ones(tool, tmp_path, program):

@@ -126,13 +126,19 @@ def test_its_cells_can_be_taken_off_the_approaches(tmp_path):
     assert not made.rounding.differing
 
 
+def test_as_many_cells_are_taken_off_as_the_shortest_way_through_has(tmp_path):
+    made = built(tmp_path, THREE.replace("[1, 2, 3], [0, 1, 0], [4, 0, 1]", "[1, 0, 0], [1, 0, 0], [1, 1, 1]") + "within = true\n")
+    # Those from n and e have a cell each, and one in which they are joined before those from w join them.
+    assert [len(made.units.roads[road]) for road in "newxyz"] == [2, 2, 3, 4, 4, 4]
+
+
 @pytest.mark.parametrize("junction, wanted", [
     (THREE.replace('"w"]', '"q"]'), "junctions[1].from: q isn't a road or a gate of the study"),
     (THREE.replace('"z"]', '"q"]'), "junctions[1].into: q isn't a road or an exit of the study"),
     (THREE.replace('"w"]', '"n"]'), "junctions[1].from: n stands twice"),
     (THREE.replace("[0, 1, 0]", "[0, 1]"), "junctions[1].shares[2]: expected 3 entries, found 2"),
-    (THREE.replace("[0, 1, 0]", "[0, 0, 0]"), "junctions[1].shares: nobody drives on from e"),
-    (THREE.replace("2, 3]", "0, 3]").replace("[0, 1, 0]", "[1, 0, 0]"), "junctions[1].shares: nobody drives into y"),
+    (THREE.replace("[0, 1, 0]", "[0, 0, 0]"), "junctions[1].shares: no vehicle drives on from e"),
+    (THREE.replace("2, 3]", "0, 3]").replace("[0, 1, 0]", "[1, 0, 0]"), "junctions[1].shares: no vehicle drives into y"),
     (THREE.replace("[0, 1, 0]", "[0, -1, 0]"), "a number here isn't negative, found -1"),
     (THREE + "cycle = 60\n", "junctions[1].phases: is missing; phases and a cycle go together"),
     (THREE + PHASES.format('{ from = ["n"], green = 20 }'), "phases: the movement e to y is green in none"),

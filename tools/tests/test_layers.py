@@ -15,7 +15,7 @@ BASE = {"arrays", "problem", "visible"}  # which all may import
 PACKAGES = sorted(path.name for path in ROOT.iterdir() if path.is_dir() and path.name != "__pycache__")
 FILES = {path: ast.parse(path.read_text()) for path in sorted(ROOT.rglob("*.py"))}
 MOST_ARGUMENTS, MOST_FILES = 6, 10
-MOST_MODULES, LEAST_LINES = 260, 23
+MOST_MODULES, LEAST_LINES = 260, 25
 
 
 def unit_of(path: Path) -> str:
@@ -115,8 +115,8 @@ def is_of_click(function: ast.FunctionDef) -> bool:
 
 @pytest.mark.parametrize("unit", sorted({*map(unit_of, FILES)}))
 def test_a_function_takes_six_arguments_at_most(unit):
-    for path, tree in FILES.items():
-        for function in (node for node in ast.walk(tree) if isinstance(node, ast.FunctionDef) and unit_of(path) == unit):
+    for path, tree in ((path, tree) for path, tree in FILES.items() if unit_of(path) == unit):
+        for function in (node for node in ast.walk(tree) if isinstance(node, ast.FunctionDef)):
             terms = function.args
             names = [term.arg for term in [*terms.posonlyargs, *terms.args, *terms.kwonlyargs]]
             count = len(names) - (names[:1] in (["self"], ["cls"])) + bool(terms.vararg) + bool(terms.kwarg)

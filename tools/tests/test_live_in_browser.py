@@ -1,7 +1,5 @@
 """The page that answers in a browser without a window: what is typed and dragged there, and what is seen then."""
 
-import time
-
 import pytest
 from selenium.webdriver.common.action_chains import ActionChains
 from selenium.webdriver.common.by import By
@@ -10,7 +8,7 @@ from selenium.webdriver.common.keys import Keys
 from ctmtools.live.fields import values_in
 from ctmtools.live.session import Session
 
-from .live_pages import PATIENCE, begun_browser, is_drawn, opened, serving, until
+from .live_pages import begun_browser, is_drawn, opened, serving, until, until_it_is
 from .test_live_session import STUDY
 
 
@@ -127,10 +125,7 @@ def test_a_box_is_drawn_moved_and_widened_by_pointer(browser, session):
 
 def comes_to(browser, session, wanted):
     """Waits until the closure is as it is wanted and drawn so: what is dragged comes there by other values."""
-    end = time.monotonic() + PATIENCE
-    while closure(session) != wanted:
-        assert time.monotonic() < end, closure(session)
-        time.sleep(0.02)
+    until_it_is(lambda: closure(session), lambda found: found == wanted)
     is_drawn(browser, session.version)
 
 
@@ -139,3 +134,70 @@ def drag(browser, element, first, last):
     middle = [(a + b) // 2 for a, b in zip(first, last)]
     steps = ActionChains(browser, 50).move_to_element_with_offset(element, *first).click_and_hold()
     steps.move_to_element_with_offset(element, *middle).move_to_element_with_offset(element, *last).release().perform()
+
+
+DEMAND = [["06:00", "06:03", 3600], ["06:03", "06:06", 1800.5], ["06:06", "06:10", 900]]
+COLUMNS = "start\tend\tflow\n06:00\t06:03\t3,600\n06:03\t06:06\t1800,5\n06:06\t06:10\t900\n"  # as a spreadsheet copies them
+
+
+def paste(browser, key, columns):
+    """Pastes columns into a cell of a table."""
+    browser.execute_script("const found = document.querySelector(`#live-form input[data-key='${arguments[0]}']`); found.focus();"
+                           "const clipboardData = new DataTransfer(); clipboardData.setData('text', arguments[1]);"
+                           "found.dispatchEvent(new ClipboardEvent('paste', {clipboardData, bubbles: true, cancelable: true}))", key, columns)
+
+
+def demand(session):
+    return values_in(session.text)["gates"]["on"]["demand"]
+
+
+def holds(browser, row):
+    """Takes hold of a step of the demand's curve, and gives the height of the curve in px."""
+    height = browser.execute_script("const found = document.querySelector(\"svg[data-key='gates.on.demand']\");"
+                                    "found.scrollIntoView({block: 'center'}); return found.getBoundingClientRect().height")
+    grip = browser.find_element(By.CSS_SELECTOR, f"svg[data-key='gates.on.demand'] [data-row='{row}']")
+    ActionChains(browser, 50).move_to_element(grip).click_and_hold().perform()
+    return height
+
+
+def test_pasted_columns_and_a_step_dragged_right_after(browser, session):
+    with serving(session) as address:
+        opened(browser, address)
+        paste(browser, "gates.on.demand.0.0", COLUMNS)
+        high = holds(browser, 2)
+        assert demand(session) == DEMAND and high == 96
+        # The curve has room for 1.3 times the greatest flow, 4,680 vehicles/h, of which 24 of 96 px are a quarter, 1,170.
+        ActionChains(browser, 50).move_by_offset(0, -12).move_by_offset(0, -12).release().perform()
+        found = until_it_is(lambda: demand(session)[2][2], lambda flow: abs(flow - 900 - 1170) < 50)
+        is_drawn(browser, session.version)
+        assert demand(session)[:2] == DEMAND[:2] and field(browser, "gates.on.demand.2.2").get_attribute("value") == str(found)
+        session.undo()  # the whole drag
+        assert demand(session) == DEMAND
+        assert browser.get_log("browser") == []
+
+
+def test_a_step_is_dragged_while_columns_come(browser, session):
+    with serving(session) as address:
+        opened(browser, address)
+        high = holds(browser, 1)
+        paste(browser, "gates.on.demand.0.0", COLUMNS)
+        until_it_is(lambda: demand(session), lambda rows: rows == DEMAND)
+        is_drawn(browser, session.version)
+        ActionChains(browser, 50).move_by_offset(0, high // 8).move_by_offset(0, high // 8).release().perform()
+        until_it_is(lambda: demand(session)[1][2], lambda flow: abs(flow - 1800 + 1170) < 50)
+        assert demand(session)[::2] == DEMAND[::2] and browser.get_log("browser") == []
+
+
+def test_the_difference_of_two_plans_as_a_picture(browser, session):
+    """The picture of one plan less the other follows what is changed, and is of one colour where both are alike."""
+    shades = ("const canvas = document.querySelector('#space canvas'), {data} = canvas.getContext('2d').getImageData(60, 30, canvas.width - 90,"
+              "canvas.height - 70); return new Set(new Uint32Array(data.buffer)).size")
+    with serving(session) as address:
+        opened(browser, address)
+        browser.execute_script("const list = document.getElementById('view'); list.selectedIndex = 2; list.dispatchEvent(new Event('change'))")
+        assert text(browser, "space-head") == "Time and place, at hand less as opened on road"
+        assert browser.execute_script(shades) == 1
+        typed(browser, "roads.m.lanes", "1")
+        is_drawn(browser, 1)
+        until(browser, "(() => {" + shades + "})() > 1")
+        assert text(browser, "space-head") == "Time and place, at hand less as opened on road" and browser.get_log("browser") == []

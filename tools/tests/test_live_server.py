@@ -2,7 +2,12 @@
 
 import asyncio
 import json
+import re
+import signal
 import socket
+import subprocess
+from contextlib import suppress
+from pathlib import Path
 
 import aiohttp
 import pytest
@@ -12,6 +17,8 @@ from ctmtools.live.server import Server
 from ctmtools.live.session import Session
 from ctmtools.problem import Problem
 
+from .examples import EXAMPLES
+from .test_interrupt import started
 from .test_live_session import CLOSURE, STUDY
 
 PATIENCE = 120  # seconds, on a busy machine
@@ -43,13 +50,21 @@ def joined(client, address):
 
 async def heard(page, kind, of=lambda message: True):
     """The next message of a kind, and of what is asked of it; of one with arrays its head."""
-    while True:
+    return (await heard_each(page, **{kind: of}))[0]
+
+
+async def heard_each(page, /, **wanted):
+    """The next message of each kind that has what is asked of it, in whichever order they come."""
+    found = {}
+    while len(found) < len(wanted):
         received = await page.receive()
         assert received.type in (aiohttp.WSMsgType.TEXT, aiohttp.WSMsgType.BINARY), received
         content = received.data if isinstance(received.data, str) else received.data[4:4 + int.from_bytes(received.data[:4], "little")]
         message = json.loads(content)
-        if message["kind"] == kind and of(message):
-            return message
+        kind = message["kind"]
+        if kind in wanted and kind not in found and wanted[kind](message):
+            found[kind] = message
+    return [found[kind] for kind in wanted]
 
 
 def test_who_may_ask(path, program):
@@ -257,6 +272,21 @@ def test_changes_that_were_not_saved_are_kept(tmp_path, capfd):
         _keep_unsaved(tmp_path / "none" / "short.toml", STUDY)
 
 
+@pytest.mark.parametrize("number, status", [(signal.SIGINT, 130), (signal.SIGTERM, -signal.SIGTERM), (signal.SIGHUP, -signal.SIGHUP)])
+def test_what_ends_the_server_keeps_what_was_not_saved(path, program, number, status):
+    async def change(address):
+        async with aiohttp.ClientSession() as client, joined(client, address) as page:
+            await page.send_json({"do": "type", "key": "roads.m.lanes", "text": "3"})
+            await heard(page, "study", lambda message: message["version"] == 1)
+            process.send_signal(number)
+
+    with started(path.parent, ["open", path, "--no-browser"], program, stdout=subprocess.PIPE, stderr=subprocess.PIPE) as process:
+        asyncio.run(change(re.search(r"http://\S+", process.stdout.readline())[0]))
+        out, err = process.communicate(timeout=PATIENCE)
+    assert process.returncode == status and "short.unsaved-1.toml" in err and "closed a minute ago" not in out
+    assert (path.parent / "short.unsaved-1.toml").read_text() == STUDY.replace("lanes = 2", "lanes = 3") and path.read_text() == STUDY
+
+
 @pytest.mark.parametrize("request_line", [b"\x16\x03\x01\x02\xff\x00", b"GET /%ff%fe/ HTTP/1.1", b"GET /\xff\xfe/ HTTP/1.1", b"GET //[ HTTP/1.1"])
 def test_what_isnt_meant_for_it_leaves_no_traceback(path, program, caplog, request_line):
     async def use(server, address, client):
@@ -307,3 +337,66 @@ def test_a_fault_of_the_tools_is_told_and_the_next_text_is_drawn(path, program, 
             await heard(page, "fault", lambda message: message["fault"] is None and message["version"] == 2)
             return fault["fault"]["line"]
     assert "a fault of these tools, IndexError" in served(Session.of_file(path), use)
+
+
+UNCERTAIN = """
+[[uncertain]]
+key = "demand"
+factor = "normal"
+mean = 1
+deviation = 0.1
+"""
+
+
+@pytest.mark.parametrize("name, line", [("draw", "100 draws, seed 1"), ("assign", "trips"), ("nothing", "there is no work nothing")])
+def test_long_work_says_what_it_comes_to(path, program, name, line):
+    path.write_text(STUDY + UNCERTAIN)
+
+    async def use(server, address, client):
+        async with joined(client, address) as page:
+            await page.send_json({"do": "begin", "name": name})
+            return await heard(page, "refused") if name == "nothing" else await heard(page, "work", lambda message: not message["running"])
+    found = served(Session.of_file(path), use)
+    assert line in (found["line"] if name == "nothing" else found["told"])
+    assert name != "draw" or any("delay (vehicle-hours)" in row for row in found["lines"]), found
+    assert [one.name for one in path.parent.iterdir()] == ["short.toml"]
+
+
+def test_long_work_is_stopped_with_its_process_and_one_is_done_at_a_time(path, program):
+    path.write_text(STUDY + UNCERTAIN)
+
+    async def use(server, address, client):
+        async with joined(client, address) as page:
+            await page.send_json({"do": "begin", "name": "draw"})
+            await heard(page, "work", lambda message: message["told"].endswith("of 100 runs"))
+            assert workers(path)
+            await page.send_json({"do": "begin", "name": "draw"})
+            refused = await heard(page, "refused")
+            await page.send_json({"do": "stop"})
+            stopped = await heard(page, "work", lambda message: not message["running"])
+            return refused["line"], stopped["told"], workers(path)
+    assert served(Session.of_file(path), use) == ("other work is being done; stop it first", "stopped; nothing is kept", [])
+
+
+def workers(path):
+    """The processes whose words name a study."""
+    found = []
+    for words in Path("/proc").glob("[0-9]*/cmdline"):
+        with suppress(OSError):
+            if str(path) in words.read_text().split("\0"):
+                found.append(words.parent.name)
+    return found
+
+
+def test_an_assignment_gives_a_plan_and_stands_beside_the_study(path, program):
+    path.write_text((EXAMPLES / "bypass.toml").read_text())
+
+    async def use(server, address, client):
+        async with joined(client, address) as page:
+            await page.send_json({"do": "begin", "name": "assign"})
+            said, plans = await heard_each(page, work=lambda message: not message["running"],
+                                           plans=lambda message: len(message["rows"]) == 3)
+            return said["told"], [row["name"] for row in plans["rows"]], server.session.plans["assigned"]
+    told, names, text = served(Session.of_file(path), use)
+    assert "short.assigned.toml is written" in told and names == ["as opened", "assigned", "at hand"]
+    assert text == (path.parent / "short.assigned.toml").read_text()

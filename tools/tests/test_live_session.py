@@ -80,6 +80,13 @@ def test_a_patch_changes_what_it_names_and_no_more(key, value, old, new):
     assert patched(STUDY, [(key, value)]) == STUDY.replace(old, new)
 
 
+def test_rows_that_follow_each_other_are_changed_each_in_its_place():
+    text = STUDY.replace('"06:05", 3600], # vehicles/h', '"06:02", 3600], # vehicles/h\n  ["06:02", "06:05", 2400], # then')
+    wanted = text.replace('"06:05", 2400]', '"06:04", 2000]').replace('["06:05", "06:10", 1800]', '["06:04", "06:10", 1000]')
+    rows = [["06:00", "06:02", 3600], ["06:02", "06:04", 2000], ["06:04", "06:10", 1000]]
+    assert wanted != text != STUDY and patched(text, [("gates.on.demand", rows)]) == wanted
+
+
 def test_tables_are_added_and_taken_away():
     one = patched(STUDY, [("closures.+", CLOSURE)])
     assert one == STUDY + CLOSED
@@ -88,6 +95,10 @@ def test_tables_are_added_and_taken_away():
     assert patched(two, [("closures.1", None)]).endswith("lanes = 2\n") and patched(two, [("closures.1", None)]).count("[[closures]]") == 1
     assert patched(one, [("closures.1", None)]).rstrip() == STUDY.rstrip()
     assert values_in(patched(STUDY, [("roads.b", {"length": 1, "lanes": 1})]))["roads"] == {"m": {"length": 2, "lanes": 2}, "b": {"length": 1, "lanes": 1}}
+
+
+def test_a_row_is_taken_away_by_its_number_however_deep_it_stands():
+    assert patched(STUDY, [("gates.on.demand.2", None)]) == STUDY.replace('  ["06:05", "06:10", 1800], # fewer\n', "")
 
 
 @pytest.mark.parametrize("key, value", [("closures.1", None), ("roads.x.lanes", 1), ("roads..lanes", 1), ("demand.x", 1), ("demand", -1),

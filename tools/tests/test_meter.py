@@ -1,10 +1,13 @@
 """Ramp meters with feedback: their rates worked out on paper, and what a metered run is."""
 
 import csv
+from types import SimpleNamespace
 
+import pandas
 import pytest
 
 from ctmtools import Problem, read_report
+from ctmtools.commands import meter as of_meters
 from ctmtools.moments.moment import Runner, rows_of
 from ctmtools.moments.metering import alinea, gauge_of, meter
 from ctmtools.study.plan import Meter
@@ -42,6 +45,15 @@ def small(folder, parts=RAMP):
 def test_the_law():
     assert alinea(900, 70, 16, 20, 240, 1800) == 620 and alinea(900, 70, 16, 14, 240, 1800) == 1040
     assert alinea(300, 70, 16, 20, 240, 1800) == 240 and alinea(1700, 70, 16, 10, 240, 1800) == 1800
+
+
+def test_of_roads_and_gates_those_six_are_told_whose_delay_changes_most(monkeypatch):
+    places = {f"r{number}": [f"c{number}"] for number in range(1, 9)}
+    monkeypatch.setattr(of_meters, "roads_and_gates", lambda _: places)
+    without, metered = (SimpleNamespace(units=SimpleNamespace(hours=float), cells=SimpleNamespace(wait=pandas.Series(
+        {f"c{number}": float(factor * number) for number in range(1, 9)}))) for factor in (1, 3))
+    # The delay of the first rises by 2, that of the second by 4, and so on.
+    assert [line.split()[0] for line in of_meters._places(without, metered)][1:] == ["r8", "r7", "r6", "r5", "r4", "r3"]
 
 
 def test_the_rates_of_a_small_case(tmp_path, program):

@@ -13,6 +13,7 @@ from ctmtools.problem import Problem
 from ctmtools.study.reading import read_scenario, read_values, scenario_of
 from ctmtools.study.writing import study_text
 
+from .corridor import corridor_text
 from .examples import EXAMPLES
 
 STREET = EXAMPLES / "arterial-ten.toml"
@@ -51,6 +52,13 @@ def test_the_point_of_a_study_is_the_study(name):
     assert len(point) == len(variables.most) and all(0 <= number <= most for number, most in zip(point, variables.most))
     path = EXAMPLES / f"{name}.toml"
     assert candidate(scenario_of(variables.changed(point), path)) == candidate(read_scenario(path))
+
+
+def test_a_green_of_a_step_stays_one(tmp_path):
+    text = corridor_text('[[signals]]\nroad = "m"\nat = 0.5\ncycle = 60\ngreen = 10\n')
+    (tmp_path / "s.toml").write_text(text)
+    line, = Timing(read_values(tmp_path / "s.toml"), tmp_path / "s.toml", Fraction(10)).lines
+    assert (line.cycle, line.green, line.first) == (6, 1, 0)
 
 
 def test_each_stop_line_of_a_street_follows_the_one_before():

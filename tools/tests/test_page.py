@@ -239,7 +239,7 @@ def test_a_network_without_a_road_is_refused():
     network = network_of(b"ctm,1\nsteps,2\ngate,g,5,3\n")
     report = report_of(b"report,2,1\n" + b"".join(b"at,%d,g,3,0\n" % step for step in range(3)) +
                        b"cell,g,3,0,0,6\ntotal,3,0,0,6\n", "alone.report")
-    with pytest.raises(Problem, match="^alone.report: its network has no road, of which a page could tell$"):
+    with pytest.raises(Problem, match="^alone.report: its network has no road that a page could show$"):
         page_of([replace(report, network=network)])
 
 

@@ -1,6 +1,7 @@
 """What a page shows of approaches: their tables, queues over time, where it opens, and what its maker says of it."""
 
 import base64
+import json
 import os
 import re
 
@@ -10,10 +11,12 @@ from ctmtools import Problem
 from ctmtools.approaches.by_approach import by_approach
 from ctmtools.pages.content import Heading, data_of
 from ctmtools.pages.html_page import page_of
-from ctmtools.pages.networks import place_of
+from ctmtools.imports.road_names import HEADINGS
+from ctmtools.pages.networks import DIRECTED, RoadNames, roads_of
 from ctmtools.study.network_text import build
 from ctmtools.study.reading import read_scenario
 
+from .page_data import cells_of
 from .plain_reports import reported
 from .test_fixed_greens import APART, APPROACH
 
@@ -47,10 +50,130 @@ def test_the_page_opens_on_the_road_before_whose_stop_line_most_is_waited(crossi
 
 
 def test_no_internal_name_is_seen(crossing):
-    assert place_of(crossing, "s-fork1.1") == "s, where its movements part"
-    assert place_of(crossing, "s-west1") == "s, before the stop line, to west" and place_of(crossing, "s1") == "s1"
-    cells = data_of([crossing])["networks"][0]["cells"]
-    assert all(cell["place"].startswith(("s, ", "n, ", "west, ")) for cell in cells if "-" in cell["name"])
+    place_of = RoadNames(crossing).place_of
+    assert place_of("s-fork1.1") == "s, where its movements part"
+    assert place_of("s-west1") == "s, before the stop line, to west" and place_of("s1") == "s1"
+    data = data_of([crossing])
+    assert all(cell["place"].startswith(("s, ", "n, ", "west, ")) for cell in data["networks"][0]["cells"] if "-" in cell["name"])
+    assert data["titles"] == {} and "fork" not in json.dumps([data["tables"], *(cell.get("place", "") for cell in cells_of(data))])
+
+
+# High Street as an import names it, between Mill Lane and the Ring: its piece of 50 m between the two carriageways of the Ring is a stub.
+IMPORTED = """
+step = 5
+start = "07:00"
+end = "07:15"
+[lane]
+free_flow_speed = 36
+wave_speed = 18
+jam_density = 150
+saturation_flow = 1800
+[roads]
+"High Street east" = { cells = "High", length = 0.2, lanes = 1 }
+"High Street east 2" = { cells = "High-2", length = 0.3, lanes = 1 }
+"High Street east 3" = { cells = "High-3", length = 0.05, lanes = 1 }
+"High Street east 4" = { cells = "High-4", length = 0.2, lanes = 1 }
+"Mill Lane north" = { cells = "Mill", length = 0.2, lanes = 1 }
+"Mill Lane north 2" = { cells = "Mill-2", length = 0.2, lanes = 1 }
+"Ring north" = { cells = "Ring", length = 0.2, lanes = 1 }
+"Ring north 2" = { cells = "Ring-2", length = 0.2, lanes = 1 }
+"Ring south" = { cells = "Ring-3", length = 0.2, lanes = 1 }
+"motorway_link 17 north" = { cells = "ramp", length = 0.2, lanes = 1 }
+[gates]
+in-High = { into = "High Street east", demand = 300 }
+in-Mill = { into = "Mill Lane north", demand = 500 }
+in-Ring = { into = "Ring north", demand = 200 }
+in-Ring-3 = { into = "Ring south", demand = 200 }
+[exits]
+out-High-4 = { from = "High Street east 4" }
+out-Mill-2 = { from = "Mill Lane north 2" }
+out-Ring-2 = { from = "Ring north 2" }
+out-ramp = { from = "motorway_link 17 north" }
+[[junctions]]
+from = ["High Street east", "Mill Lane north"]
+into = ["High Street east 2", "Mill Lane north 2"]
+shares = [[3, 1], [1, 3]]
+lanes = [[1, 1], [1, 1]]
+cycle = 60
+offset = 10
+phases = [{ movements = [["High Street east", "High Street east 2"], ["High Street east", "Mill Lane north 2"]], green = 30 },
+          { movements = [["Mill Lane north", "High Street east 2"], ["Mill Lane north", "Mill Lane north 2"]], green = 20 }]
+[[junctions]]
+from = ["High Street east 2", "Ring north"]
+into = ["High Street east 3", "Ring north 2"]
+shares = [[3, 1], [1, 3]]
+lanes = [[1, 1], [1, 1]]
+[[junctions]]
+from = ["High Street east 3", "Ring south"]
+into = ["High Street east 4", "motorway_link 17 north"]
+shares = [[3, 1], [1, 3]]
+lanes = [[1, 1], [1, 1]]
+[[closures]]
+road = "High Street east 4"
+from = 0.1
+to = 0.15
+start = "07:05"
+end = "07:10"
+capacity = 0
+"""
+
+
+@pytest.fixture(scope="module")
+def town(tmp_path_factory):
+    """The report of a street as an import names it."""
+    path = tmp_path_factory.mktemp("town") / "town.toml"
+    path.write_text(IMPORTED)
+    return reported(build(read_scenario(path)))
+
+
+def test_roads_are_called_by_their_streets_and_stubs_belong_to_theirs(town):
+    data, names = data_of([town]), RoadNames(town)
+    assert names.chains["High Street east 2"] == ["High Street east 2", "High Street east 3"] and len(names.chains) == 9
+    assert data["titles"] == {
+        "High Street east": "High Street east, to Mill Lane", "High Street east 2": "High Street, from Mill Lane to Ring",
+        "High Street east 3": "High Street, from Mill Lane to Ring", "High Street east 4": "High Street east, from Ring",
+        "Mill Lane north": "Mill Lane north, to High Street", "Mill Lane north 2": "Mill Lane north, from High Street",
+        "Ring north": "Ring north, to High Street", "Ring north 2": "Ring north, from High Street",
+        "Ring south": "Ring south, to High Street", "motorway_link 17 north": "ramp north, from High Street",
+        "in-High": "High Street east", "in-Mill": "Mill Lane north", "in-Ring": "Ring north", "in-Ring-3": "Ring south",
+        "out-High-4": "High Street east", "out-Mill-2": "Mill Lane north", "out-Ring-2": "Ring north", "out-ramp": "ramp north"}
+    assert all(DIRECTED.fullmatch(f"Mill Lane {heading} 2") for heading in HEADINGS) and not DIRECTED.fullmatch("r12")
+
+
+def test_a_stub_counts_with_its_road(town):
+    data, made = data_of([town]), [cell for cell in town.cells.index if cell.startswith(("High-2", "High-3"))]
+    row = next(row["of"][0] for row in data["tables"]["roads"]["rows"] if row["name"] == "High Street east 2")
+    assert row[0] == pytest.approx(0.35) and row[1] == pytest.approx(town.units.hours(town.cells.wait[made].sum()), abs=1e-6)
+    own = [cell for cell in cells_of(data) if cell.get("road") == "High Street east 2"]
+    assert [(cell["from"], cell["to"]) for cell in own][-2:] == [(0.25, 0.3), (0.3, 0.35)]
+    assert len(roads_of(town)["High Street east 2"]) == 7
+    assert sum(row["of"][0][1] for row in data["tables"]["roads"]["rows"]) == pytest.approx(town.delay_vehicle_hours, abs=1e-4)
+
+
+def test_signals_and_closures_have_their_times(town):
+    data = data_of([town])["reports"][0]
+    numbers = {cell: i for i, cell in enumerate(town.cells.index)}
+    # By the offset a cycle begins 10 s after 07:00: its greens are from 10 to 40 s and from 40 to 60 s of each minute.
+    first, second = data["signals"]
+    assert [(one["cycle"], one["at"]) for one in (first, second)] == [(60, numbers["High4"]), (60, numbers["Mill4"])]
+    assert [(one["zero"], one["greens"]) for one in (first, second)] == [(25210, [[0, 30]]), (25210, [[30, 50]])]
+    assert first["junction"] == second["junction"] and first["approach"] == "High Street east, to Mill Lane"
+    assert first["name"] == "High Street east, to Mill Lane, into High Street east, Mill Lane north"
+    assert data["closures"] == [{"begin": 25500, "end": 25800, "flow": 0, "cells": [numbers["High-4.3"]]}]
+
+
+def test_who_gives_way_closes_nothing(crossing):
+    assert data_of([crossing])["reports"][0]["closures"] == [] and len(data_of([crossing])["reports"][0]["signals"]) == 3
+
+
+def test_an_imported_town_shows_no_name_of_a_cell(town):
+    data = data_of([town])
+    told = json.dumps([data["tables"]["approaches"], data["tables"]["greens"], [cell.get("place") for cell in cells_of(data)],
+                       data["reports"][0]["queues"]])
+    assert not re.search(r"fork|join|High-|Mill-|junctions\[| \d\b(?!\.)", re.sub(r"-?\d+\.\d+|: ?\d+|, \d+", "", told))
+    movements = {row[0] for row in data["tables"]["approaches"][1]["rows"]}
+    assert {"High Street east, to Mill Lane, into Mill Lane north", "Ring north, to High Street, into High Street east"} <= movements
+    assert RoadNames(town).place_of("High-4.1") == "High Street east, from Ring, km 0 to 0.05"
 
 
 def test_queues_over_time_are_drawn_of_the_approaches_where_they_grow_longest(crossing):

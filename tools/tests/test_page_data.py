@@ -43,6 +43,12 @@ def test_the_data_of_a_light():
     assert (cell["name"], cell["kind"], cell["from"], cell["to"]) == ("a", "road", 0, 1)
 
 
+@pytest.mark.filterwarnings("error::RuntimeWarning")
+def test_a_run_in_which_nobody_comes_has_zeros_and_no_warning():
+    data = data_of([at_a_light()])
+    assert not any(decoded(data, name)[cell].any() for name in ("density", "flow") for cell in "gax")
+
+
 def test_means_of_frames_of_several_steps(monkeypatch):
     monkeypatch.setattr(frames, "MOST_DATA", 10 * (3 * 4.125 + 24))  # ten frames of three cells
     data = data_of([at_a_light(0, 3, 7)])

@@ -161,7 +161,7 @@ def test_the_ways_are_printed_on_the_second_of_two_sheets(browser, page):  # noq
     browser.execute_script("chooseWay(1); addEventListener('beforeprint', () => { window.printedWays ="
                            "[...document.querySelectorAll('#pair-ways tbody tr')].filter(row => row.offsetHeight).length; })")
     assert printed_pages(browser) == 2 and browser.execute_script("return window.printedWays") == 2
-    assert "A click on a way" in text(browser, "ways-more") and browser.get_log("browser") == []
+    assert "A click on a route" in text(browser, "ways-more") and browser.get_log("browser") == []
 
 
 def test_a_page_without_ways_has_no_part_for_them(browser, report, tmp_path):  # noqa: F811

@@ -13,6 +13,7 @@ from matplotlib.lines import Line2D
 from matplotlib.text import Text
 
 from ctmtools import Problem, plot, read_report
+from ctmtools.plots.delay import MOST_BARS
 from ctmtools.plots.figure import legend_below, save
 from ctmtools.plots.layout import lay_out
 from ctmtools.plots.network_map import MOST_WIDTH, _points
@@ -142,7 +143,9 @@ def test_bars_that_are_left_out_are_told(report):
     delays = delays[~delays.index.str.startswith("gate ")]
     shown = delays[delays >= 0.0005 * delays.sum()]
     assert len(delays) == 12 and len(shown) == 8 and f"{12 - len(shown)} roads with less than 0.05% of the delay are left out" in texts(plot(read, "delay"))
-    assert "others are left out" in texts(plot(many_roads(160), "delay"))
+    many = plot(many_roads(160), "delay")
+    assert f"The {MOST_BARS // 2} cells with the most delay" in texts(many) and len(many.axes[0].patches) == MOST_BARS // 2
+    assert "others are left out" in texts(many)
     free = many_roads(61)
     free.cells.wait = 0.0
     assert "60 roads with less than 0.05% of the delay are left out" in texts(plot(free, "delay"))

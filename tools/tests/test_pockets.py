@@ -129,7 +129,7 @@ def test_who_gives_way_out_of_a_pocket_passes_as_from_a_lane_of_its_own(tmp_path
     ('pockets = [{ movements = [] }]\n', "junctions[1].pockets[1].movements: expected movements of one approach"),
     ('pockets = [{ lanes = 1 }]\n', "junctions[1].pockets[1].movements: expected movements of one approach"),
     ('pockets = [{ movements = [["south", "left"], ["south", "ahead"], ["south", "right"]] }]\n',
-     "junctions[1].pockets[1]: all who come by south drive into this pocket, so it parts nobody; take it away"),
+     "junctions[1].pockets[1]: all vehicles of south drive into this pocket, so it separates none; remove it"),
     (LEFT.replace("}]", '}, { movements = [["south", "left"]] }]'),
      "junctions[1].pockets[2].movements: south to left stands in two pockets, and each movement has one"),
     ('pockets = [{ movements = [["in", "left"]] }]\n', "junctions[1].pockets[1].movements[1]: in isn't of this junction, which has south")])

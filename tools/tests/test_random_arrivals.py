@@ -8,8 +8,11 @@ from ctmtools.approaches.by_approach import by_approach
 from ctmtools.network_file.network import network_of
 from ctmtools.runs.arrivals import Draw, at_random, lanes_giving_way
 from ctmtools.runs.running import opened
-from ctmtools.uncertainty.seeds import parts_of, seeded
+from ctmtools.uncertainty.seeds import parts_of, seed_lines, seeded
 from ctmtools.yielding.gaps import at_signal, at_stop, harders
+
+from .corridor import corridor
+from .plain_reports import reported
 
 NETWORK = b"""ctm,1
 steps,3600
@@ -127,6 +130,15 @@ def test_who_gives_way_at_a_signal_has_no_gaps_drawn(tmp_path):
     (tmp_path / "study.toml").write_text(STUDY + LIGHT)
     made = build(read_study(tmp_path / "study.toml"))
     assert lanes_giving_way(read_study(tmp_path / "study.toml").scenario.yields, made.units) == []
+
+
+def test_queues_are_told_in_metres_and_the_delay_of_all_in_hundredths(tmp_path):
+    # In two minutes 28 more vehicles come to a lane than it passes: they wait in a cell of 250 m before it, with room for 72.
+    report = reported(corridor(tmp_path, "[[roads.m.sections]]\nfrom = 0.5\nlanes = 1\n", demand='[["06:00", "06:02", 3000]]'))
+    frame = parts_of(report).assign(draw=1)
+    assert frame.set_index("road").queue.m == 250
+    frame.attrs["delays"] = [0.25]
+    assert "Arrivals at random, 1 draws: 0.25 vehicle-hours of delay, with even arrivals " in list(seed_lines(frame, report))[1]
 
 
 def test_run_tells_means_and_intervals(tool, tmp_path, recording_program):

@@ -13,7 +13,7 @@ INSIDE = sorted([*TOP.glob("docs/inside/*.md"), TOP / "CONTRIBUTING.md"])
 USERS = sorted([TOP / "README.md", TOP / "tools/README.md", TOP / "examples/README.md", *TOP.glob("docs/*.md"),
                 *TOP.glob("docs/how-to/*.md"), *TOP.glob("tools/docs/*.md")])
 BOTH = [str(path.relative_to(TOP)) for path in [*USERS, *INSIDE]]
-MOST_PROSE, MOST_WITH_TABLES = 28_600, 44_400
+MOST_PROSE, MOST_WITH_TABLES, MOST_OF_USERS = 27_400, 43_000, 30_200
 LONGEST = 40  # words of a sentence
 # Sentences that are longer, by their pages and first words: lists of files, commands or titles, and what others wrote.
 LONGER = [
@@ -56,6 +56,7 @@ def test_the_first_page_has_no_more_lines():
 def test_both_books_together_have_no_more_words():
     assert sum(len(words(prose(page))) for page in BOTH) <= MOST_PROSE
     assert sum(len(words(uncoded(page))) for page in BOTH) <= MOST_WITH_TABLES
+    assert sum(len(words(uncoded(path.relative_to(TOP)))) for path in USERS) <= MOST_OF_USERS
 
 
 @pytest.mark.parametrize("page", BOTH)

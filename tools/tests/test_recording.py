@@ -42,6 +42,13 @@ def test_from_a_thousand_cells_on_there_are_as_many_threads_as_are_said(monkeypa
     assert [running.many_workers(*given) for given in ((999, 3), (1000, 3), (1000, None))] == [1, 3, 6]
 
 
+@pytest.mark.parametrize("count, wanted", [(3, 3), (None, 1)])
+def test_where_a_system_does_not_say_which_processors_a_process_has_all_of_them_count(monkeypatch, count, wanted):
+    monkeypatch.delattr("os.sched_getaffinity")
+    monkeypatch.setattr("os.cpu_count", lambda: count)
+    assert running.processors() == wanted
+
+
 class Terminal(io.StringIO):
     def isatty(self):
         return True

@@ -8,6 +8,7 @@ import ctmtools
 from ctmtools import Problem, Report, read_report, run
 
 from .examples import EXAMPLES
+from .test_meter import METER, RAMP, small
 
 ROAD = """\
 title = "A <road>"
@@ -83,7 +84,8 @@ def test_reports_are_equal_where_they_are_the_same_one(of, reports):
 
 
 def test_whatever_gives_a_report_gives_one_with_methods(program, of, reports, tmp_path):
-    done = ctmtools.meter(EXAMPLES / "feedback.toml")
+    small(tmp_path, RAMP + METER + "interval = 600\n")
+    done = ctmtools.meter(tmp_path / "study.toml")
     kept = run(ROAD, output=tmp_path / "r.report")
     assert all(isinstance(one, Report) for one in (of, read_report(reports("bottleneck")), run(ROAD), kept, done.report, done.without))
     assert kept.name == str(tmp_path / "r.report") and kept.units.known and kept.network is not None

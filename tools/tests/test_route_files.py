@@ -52,5 +52,5 @@ def test_a_route_of_its_own_and_ways_over_stops(trips):
                          '<vehicle id="5" depart="9"><route edges="a q"/></vehicle><vehicle id="6" depart="triggered"><route edges="a c"/>'
                          '</vehicle><flow id="7" begin="0" end="10" number="3"><route edges=""/></flow>')
     assert found == [("a c", 5, 5, 1), ("a c e", 6, 6, 1)]
-    assert notes == ["t.rou.xml: 6 vehicles without a way over the network are left out, as trip 3 from a to b, where no way is",
+    assert notes == ["t.rou.xml: 6 vehicles without a route over the network are left out, as trip 3 from a to b, which no connection joins",
                      "t.rou.xml: 1 vehicles that depart triggered are left out, as vehicle 6"]

@@ -118,7 +118,7 @@ def test_limits_that_swing_go_less_than_half_way_and_end_after_20_runs(tmp_path)
     assert any("merges[1], side: after 20 runs what passes isn't settled" in line for line in found.built.warnings)
 
 
-@pytest.mark.parametrize("moved, doubt", [(0.01, ""), (0.011, "who gives way isn't settled after 20 runs, a limit moves by 1.1%")])
+@pytest.mark.parametrize("moved, doubt", [(0.01, ""), (0.011, "what gaps let pass isn't settled after 20 runs, a capacity changes by 1.1%")])
 def test_a_limit_that_would_move_by_just_a_hundredth_is_settled(tmp_path, moved, doubt):
     study = read_study(write(tmp_path, SIDE.format(main=600, low=300, high=300))).scenario
     found = Settled(study, build(study), 20, moved)

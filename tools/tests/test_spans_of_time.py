@@ -30,7 +30,7 @@ def test_the_last_span_ends_with_the_run():
     rows = spans(15)
     assert [(row["begin"], row["end"]) for row in rows] == [(0, 15), (15, 30), (30, 40)] and rows[0]["flow"] == 0.2
     assert len(spans(1)) == 40 and [row["flow"] for row in spans(1)[:4]] == [0, 0, 1, 0]
-    with pytest.raises(Problem, match="less than the way from record to record"):
+    with pytest.raises(Problem, match="less than the time from record to record"):
         spans(0.9)
 
 
@@ -66,7 +66,7 @@ def test_bounds_of_spans(every, wanted):
 
 
 def test_a_span_is_no_shorter_than_a_record():
-    with pytest.raises(Problem, match="less than the way"):
+    with pytest.raises(Problem, match="less than the time"):
         bounds_of(at_a_light(0), 0.9)
 
 

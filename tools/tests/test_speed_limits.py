@@ -110,7 +110,7 @@ def test_what_is_rounded_by_more_than_a_thousandth_is_told(tmp_path):
 
 
 @pytest.mark.parametrize("limit, told", [
-    (LIMIT.format(0), "speed_limits[1].speed: must be above 0; a closure lets nobody through"),
+    (LIMIT.format(0), "speed_limits[1].speed: must be above 0; a closure lets no vehicle through"),
     (LIMIT.format(0.04), "speed_limits[1].speed: is less than a thousandth of the free-flow speed"),
     (SIXTY.replace('"m"', '"n"'), "speed_limits[1]: there is no road n"),
     (SIXTY + "to = 2\n", "speed_limits[1].to: km 2 is beyond road m, which has 1 km"),

@@ -289,3 +289,5 @@ def test_mistakes(mistake, tmp_path):
 def test_a_wave_speed_of_thousandths_of_the_free_flow_speed(tmp_path):
     made = corridor(tmp_path, head=OPEN_HEAD.replace("= 90", "= 100").replace("= 18", "= 17.1"))
     assert {tuple(line.split(",")[4:6]) for line in made.text.splitlines() if line.startswith("road,")} == {("171", "1000")}
+    with pytest.raises(Problem, match="roads.m.wave_speed: is less than a thousandth of the free-flow speed"):
+        corridor(tmp_path, head=OPEN_HEAD.replace("= 90", "= 100").replace("= 18", "= 0.04"))

@@ -113,6 +113,7 @@ def test_tables_are_put_and_taken_away():
     ({"roads.q.lanes": 2}, "^roads.q.lanes: the study has no q there"), ({"signals.3.green": 2}, "^signals.3.green: there are 2 of these"),
     ({"crs": None}, "^crs: the study has no crs there"), ({"demand": -1}, "^demand: expected a factor, 0 or more, found -1"),
     ({"demand": "much"}, '^demand: expected a factor, 0 or more, found "much"'), ({"demand.q": 1}, "^demand.q: the study has no gate q"),
+    ({"demand": True}, "^demand: expected a factor, 0 or more, found True"),
     ({"roads.m.lanes": 0}, "^the study: roads.m.lanes: expected a whole number"), ({"lane.spede": 2}, "^the study: lane.spede: no such key")])
 def test_a_change_that_cannot_be(change, told):
     with pytest.raises(Problem, match=told):

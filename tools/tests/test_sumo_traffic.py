@@ -143,7 +143,7 @@ def test_vehicles_drive_where_their_class_may(imported):
                    '<flow id="4" number="40" end="3600" type="o"><route edges="a t"/></flow>')
     assert out.startswith("n.toml: 3 streets, 0 signals, 40 vehicles")
     assert "2 edges that cars may not use are kept, since others drive there (v, w)" in out
-    assert "60 vehicles without a way over the network are left out, as flow 2 from a to v, where no way is" in out
+    assert "60 vehicles without a route over the network are left out, as flow 2 from a to v, which no connection joins" in out
     study = read_study("n.toml")
     assert float(study.roads["v"].sections[0].free_flow_speed) == 90 and study.roads["a"].sections[0].lanes == 1
 
@@ -215,8 +215,8 @@ def test_a_packed_file_is_read(tool, tmp_path):
 def test_an_import_of_nothing_says_why(tool, imported, tmp_path):
     imported(FLOW.format('number="5"'))
     (tmp_path / "n.rou.xml").write_text('<routes><trip id="1" depart="0" from="b" to="a"/></routes>')
-    assert "no vehicle comes in the first 1 h; n.rou.xml: 1 vehicles without a way over the network are left out, as trip 1 from " \
-        "b to a, where no way is" in tool("import", "sumo", "n.net.xml", "--routes", "n.rou.xml")[2]
+    assert "no vehicle comes in the first 1 h; n.rou.xml: 1 vehicles without a route over the network are left out, as trip 1 from " \
+        "b to a, which no connection joins" in tool("import", "sumo", "n.net.xml", "--routes", "n.rou.xml")[2]
 
 
 @pytest.mark.parametrize("elements, wanted", [
@@ -250,7 +250,7 @@ def test_what_sumo_refuses_is_refused_with_its_place(tmp_path, elements, wanted)
     *((NET.replace("<net>", f"<net><location netOffset='0,0' projParameter='{text}'/>"), "n.net.xml: projParameter: names a file") for text in (
         "+init=/dev/zero:x", "+proj=utm +zone=32 +init=secret:x", "+proj=tmerc +ellps=bessel +nadgrids=secret", "+proj=utm +zone=32 +geoidgrids = secret",
         'BOUNDCRS[SOURCECRS[],PARAMETERFILE["shift","secret"]]')),
-    (NET.replace("<net>", '<net><location netOffset="0,0" projParameter="+proj=merc +R=1737400"/>'), "n.net.xml: projParameter: no way is known from ")])
+    (NET.replace("<net>", '<net><location netOffset="0,0" projParameter="+proj=merc +R=1737400"/>'), "n.net.xml: projParameter: no conversion is known from ")])
 def test_networks_that_cannot_be_meant_are_refused(tool, tmp_path, text, wanted):
     (tmp_path / "n.net.xml").write_text(text)
     status, out, err = tool("import", "sumo", "n.net.xml")

@@ -30,7 +30,7 @@ SLIPS = {
                                             "warning: road m from km 0 to 1 can carry 3,600 vehicles/h for long by its "
                                             "jam density and its speeds, which is below its saturation flow of 4,320 vehicles/h"),
     "a road without an exit": (STUDY.replace('[exits.x]\nfrom = "m"\n', ""),
-                               "warning: road m at km 1 has no way on: neither an exit nor a road, so what comes there stays"),
+                               "warning: road m at km 1 leads neither to an exit nor to a road, so vehicles that come there stay"),
     "a road that nothing leads to": (STUDY + '[roads.n]\nlength = 1\nlanes = 1\n[exits.y]\nfrom = "n"\n',
                                      "warning: no vehicle ever reaches road n from km 0 to 0.25, nor 4 more behind it"),
     "a demand far above the capacity": (STUDY.replace("1000", "50000"),
@@ -39,7 +39,7 @@ SLIPS = {
     "demands that overlap": (STUDY.replace("1000", '[["06:00", "06:40", 900], ["06:30", "07:00", 360]]'),
                              "warning: the demands of g overlap from 06:30 on; their amounts add up"),
     "a hole in the demand": (STUDY.replace("1000", '[["06:30", "07:00", 900], ["06:00", "06:20", 900]]'),
-                             "warning: gates.g.demand: nobody comes from 06:20 to 06:30, a hole between its rows; is a row missing?"),
+                             "warning: gates.g.demand: no vehicle comes from 06:20 to 06:30, a hole between its rows; is a row missing?"),
     "a road shorter than was meant": (STUDY.replace("length = 1\n", "length = 0.9\n"),
                                       "rounded: length of road m: 0.9 km asked, 1 km modelled"),
     "a speed limit that does nothing": (STUDY + '[[speed_limits]]\nroad = "m"\nfrom = 0.5\nstart = "06:15"\nend = "06:45"\nspeed = 100\n',
@@ -70,9 +70,9 @@ def test_a_network_has_its_warnings_before_its_results_too(tool, tmp_path, recor
     (tmp_path / "s.toml").write_text(SLIPS["a road without an exit"][0])
     tool("build", "s.toml")
     status, out, err = tool("run", "s.csv", "--every", "0")
-    assert out.splitlines()[0].startswith("warning: s.csv: line ") and "has no way on" in out.splitlines()[0]
+    assert out.splitlines()[0].startswith("warning: s.csv: line ") and "leads neither to an exit" in out.splitlines()[0]
     status, out, err = tool("lint", "s.csv")
-    assert status == 0 and "road m at km 1 has no way on" in out
+    assert status == 0 and "road m at km 1 leads neither to an exit" in out
 
 
 def test_a_cell_that_was_added_to_a_built_network_is_named_as_in_the_file(tool, tmp_path, program):

@@ -33,8 +33,8 @@ def test_thirty_cases_of_all_kinds(bench):
     ("flare for two, 240", 799.5),
     # The queue clears in 300·44/1,500 = 8.8 s: 27.2 of 80 s at 300·exp(-0.375)/(1 - exp(-0.20833)) = 1,096.2, and 2 at the end of each of 45 cycles.
     ("permitted left, 100 against 300", 462.7),
-    ("permitted left, 75 against 500", 307.6),
-    ("permitted left, 40 against 700", 165.8),
+    ("permitted left, 100 against 500", 307.6),
+    ("permitted left, 60 against 700", 165.8),
     ("protected left, 200", 360.0),
     # 16 s of 1,800; 400 clear in 400·52/1,400 = 14.86 s, and 13.14 s of 80 let 1,000.3 turn, 164.3; 90 at the end.
     ("protected and permitted left, 350", 614.3),
@@ -62,6 +62,16 @@ def test_control_delay_by_hand(bench):
     assert manual.at_signal(200, 360, 80, 16) == pytest.approx(34.86, abs=0.02)
     # The polygon of the same queue, whose green is at its end.
     assert manual.even_queue(200, [0] * 64 + [1800] * 16) == pytest.approx(28.8, rel=0.01)
+
+
+def test_a_permitted_left_turn_in_one_lane_by_hand(bench):
+    manual, cases, _ = bench
+    # Half of 260 turn left, 2.889 in a cycle: the first comes after 36·exp(-0.860·2.889^0.629) - 2 = 4.74 s, and the others' queue is gone
+    # after 8.8. Then 1/(0.5/1,096.2 + 0.5/1,800) = 1,362.6 pass, and 1.5 at the end: (4.736·1,800 + 27.2·1,362.6)/80 + 67.5 = 637.3.
+    assert manual.permitted_in_lane(300, 0.5, 80, 36, 260) == pytest.approx(637.3, abs=0.1)
+    # 3.178 wait when it begins, 1.152 after 4.74 s and 1.445 after 8.8; they are gone after 4.72 s more at 1,362.6 - 260 in an hour.
+    # Their waits are 69.9, 10.3, 5.3 and 3.4 vehicle-seconds of 5.778 vehicles: 15.4 s, and at random 1.93.
+    assert cases["one lane, half left, against 300"].delay() == pytest.approx(15.4 + 1.93, abs=0.3)
 
 
 def test_an_all_way_stop_by_hand(bench):

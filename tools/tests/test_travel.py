@@ -94,7 +94,7 @@ def test_places_of_a_route(tmp_path):
 @pytest.mark.parametrize("begin, end, road, wanted", [
     ("m.2", "m.1", None, "--from m.2: road m has 1 km"), ("n.0", "m.1", None, "--from n.0: there is no such place"),
     ("m.0", None, None, "--to: is missing"), ("m.0", "m.1", "m", "--road: say either"),
-    ("m.0.5", "m.0.25", None, "no way leads from m.0.5 to m.0.25"), (None, None, "n", "the units name no road n")])
+    ("m.0.5", "m.0.25", None, "no route leads from m.0.5 to m.0.25"), (None, None, "n", "the units name no road n")])
 def test_mistakes_in_places(tmp_path, begin, end, road, wanted):
     with pytest.raises(Problem) as found:
         chain_of(reported(corridor(tmp_path)), begin, end, road)
@@ -104,7 +104,7 @@ def test_mistakes_in_places(tmp_path, begin, end, road, wanted):
 def test_the_command_prints_and_writes_rows_draws_them_and_refuses_odd_spans(tool, reports, tmp_path):
     path = reports("bottleneck")
     status, out, err = tool("travel-time", path, "--road", "m", "--every", "30 min", "-o", "rows.csv", "--plot", "t.png")
-    assert status == 0 and "at free flow, 30 steps" in out and out.splitlines()[2].split()[:4] == ["set", "out", "from", "vehicles"]
+    assert status == 0 and "at free flow, 30 steps" in out and out.splitlines()[2].split()[:3] == ["departure", "from", "vehicles"]
     row = next(line.split() for line in out.splitlines() if line.strip().startswith("06:00"))
     assert row[2:] == ["5", "5", "5", "90"]
     assert (tmp_path / "t.png").stat().st_size > 5000

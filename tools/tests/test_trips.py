@@ -149,7 +149,7 @@ def test_slices_that_overlap_and_gates_without_trips_are_said(tmp_path):
     (lambda text: text.replace('into = ["x", "y"]', 'into = ["x", "y"]\nturns = [{ shares = [1, 1] }]'),
      "diverges[1].turns: shares by time stand without shares"),
     (lambda text: text.replace("y = {}", "y = {}\nz = { capacity = 900 }").replace('to = "y"', 'to = "z"'),
-     "trips[2]: no way leads from g to z; the last road that is reached is m")])
+     "trips[2]: no route leads from g to z; the last road that is reached is m")])
 def test_a_network_on_which_trips_cannot_be_is_refused(tool, tmp_path, change, told):
     (tmp_path / "s.toml").write_text(change(TWO_PAIRS))
     status, _, err = tool("assign", "s.toml")
@@ -181,13 +181,13 @@ def route(roads, more=""):
 
 
 @pytest.mark.parametrize("text, told", [
-    (route('["lane"]'), "routes[1].roads: there is no road lane"), (route("[]"), "routes[1].roads: expected the roads of the way"),
-    (route('["b", "short"]'), "routes[1].roads: no way leads from b1 to road short"),
+    (route('["lane"]'), "routes[1].roads: there is no road lane"), (route("[]"), "routes[1].roads: expected the roads of the route"),
+    (route('["b", "short"]'), "routes[1].roads: no route leads from b1 to road short"),
     (route('["short"]', "share = -1\n"), "routes[1].share: a share isn't negative"),
     (route('["short"]', "share = []\n"), "routes[1].share: expected a number or rows of [start, end, share], found none"),
     (route('["short"]', "share = 1\n") + route('["long"]'), "routes[1].share: either all routes from home to work have shares or none"),
     (route('["short"]', 'share = [["07:30", "09:00", 1]]\n'),
-     "routes[1].share: no route from home to work has a share at 07:02:30, when drivers set out")])
+     "routes[1].share: no route from home to work has a share at 07:02:30, when drivers depart")])
 def test_a_route_that_cannot_be_driven_or_shared_is_refused(tool, tmp_path, text, told):
     (tmp_path / "s.toml").write_text(TWO_WAYS + text)
     status, _, err = tool("assign", "s.toml")

@@ -198,6 +198,28 @@ def test_as_many_incidents_happen_as_rate_and_kilometres_make(tmp_path, report):
     assert happened(found, read, study, 1, 3) == draws[2]
 
 
+def test_a_summary_has_the_interval_of_the_mean_from_its_lower_end_on():
+    rows = pandas.DataFrame({"plan": "s", "draw": range(1, 11), "error": "", "inside_vehicles": 0, DELAY: numpy.arange(1.0, 11)})
+    found = Draws(rows, title="s", titles={}, seed=1, count=10, asked_for=10, places=(), times={}, stand={"s": {DELAY: 5.0}},
+                  free={"s": {}}, networks={}).summary.iloc[0]
+    # The variance of 1 to 10 is 55/6, and Student's t of 9 degrees of freedom 2.262.
+    half = 2.262 * (55 / 6) ** 0.5 / 10**0.5
+    assert (found["mean"], found.mean_low, found.mean_high) == pytest.approx((5.5, 5.5 - half, 5.5 + half), rel=1e-3)
+
+
+def test_incidents_happen_within_the_time_of_their_entry(tmp_path):
+    """20 of 60 vehicle-kilometres are driven in the entry's 20 minutes, so 100,000 incidents in a million make 2 in a run."""
+    made = corridor(tmp_path, demand=60)
+    base = (tmp_path / "study.toml").read_text()
+    entry = 'incidents = "m"\nrate = 100000\nlanes = 1\nduration = "5 min"\nstart = "06:20"\nend = "06:40"'
+    found, report = uncertain(tmp_path, entry, base=base).incidents, reported(made)
+    study = read_scenario(tmp_path / "s.toml")
+    draws = [happened(found, report, study, 1, number) for number in range(1, 301)]
+    begins = [float(one.part.start) for draw in draws for one in draw]
+    assert 20 * 60 <= min(begins) and max(begins) < 40 * 60
+    assert len(begins) / 300 == pytest.approx(2, abs=4 * (2 / 300) ** 0.5)
+
+
 def test_incidents_happen_where_vehicles_drive_and_not_cell_by_cell(tmp_path):
     """Half of the way is two cells of 250 m, the other half four of 125 m: as many vehicle-kilometres, and twice the cells."""
     made = corridor(tmp_path, parts="[[roads.m.sections]]\nfrom = 0.5\nfree_flow_speed = 45\n")

@@ -61,7 +61,7 @@ def test_lines_in_the_units_of_a_study():
         "line 4: road m from km 0 to 0.5 can carry 5,400 vehicles/h for long by its jam density and its speeds, which is below its saturation flow of "
         "6,480 vehicles/h"]
     assert lines(HEAD + LINKS.replace("link,b,x\n", "") + DEMAND, UNITS)[0] == \
-        "line 5: road m at km 0.5 has no way on: neither an exit nor a road, so what comes there stays"
+        "line 5: road m at km 0.5 leads neither to an exit nor to a road, so vehicles that come there stay"
     assert lines(WHOLE + "demand,g,2,4,1\n", UNITS) == ["line 11: the demands of g overlap from 06:00:20 on; their amounts add up"]
     assert lines(WHOLE + DEMAND, UNITS) == ["line 11: two demands of g are the same from 06:00 on; their amounts add up"]
 
@@ -78,5 +78,5 @@ def test_what_nothing_reaches_is_told_once_for_all_behind_it():
 def test_five_of_a_kind_are_told():
     gates = "".join(f"gate,g{i},1,0\nexit,x{i},1\nlink,g{i},x{i}\n" for i in range(7))
     told = lines(WHOLE + gates)
-    assert len(told) == 6 and told[-1] == "and 2 more: gates without demand" and told[0] == "line 11: the gate g0 has no demand: nobody comes"
+    assert len(told) == 6 and told[-1] == "and 2 more: gates without demand" and told[0] == "line 11: the gate g0 has no demand: no vehicle comes"
     assert len(lines(WHOLE + gates[:gates.index("gate,g5")])) == 5

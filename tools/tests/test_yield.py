@@ -353,14 +353,14 @@ def test_a_median_before_six_lanes_has_no_usual_gap(tmp_path):
 
 @pytest.mark.parametrize("more, why", [
     ('yields = [{ movement = ["s", "y"], yields_to = [["n", "x"]] }]', "yields[1].kind: is missing"),
-    ('yields = [{ movement = ["s", "y"], yields_to = [["n", "y"]], kind = "major-left" }]', "nobody drives from n to y"),
+    ('yields = [{ movement = ["s", "y"], yields_to = [["n", "y"]], kind = "major-left" }]', "no vehicle drives from n to y"),
     ('yields = [{ movement = ["s", "y"], yields_to = [], kind = "major-left" }]', "expected other movements"),
     ('yields = [{ movement = ["s", "y"], yields_to = [["n", "x"]], kind = "left" }]', "expected one of major-left"),
     ('yields = [{ movement = ["s", "y"], yields_to = [["n", "x"]], kind = "minor-left", control = "halt" }]',
      "expected stop or give_way, found halt"),
     ('yields = [{ movement = ["s", "y"], yields_to = [["n", "x"]], kind = "minor-left", median = 1 }]', "yields[1].first"),
     (PERMITTED.replace(', permitted = [["s", "y"]]', "").replace("SNEAKERS", "2"), "is permitted in no phase"),
-    (PERMITTED.split("yields")[0], "gives way to nobody")])
+    (PERMITTED.split("yields")[0], "gives way to none")])
 def test_what_a_study_cant_mean_is_refused_with_its_place(tmp_path, more, why):
     with pytest.raises(Problem) as refused:
         read_study(write(tmp_path, CROSSING.format(more=more)))
@@ -370,13 +370,13 @@ def test_what_a_study_cant_mean_is_refused_with_its_place(tmp_path, more, why):
 def test_of_many_who_do_not_give_way_eight_are_told_and_how_many_more_there_are():
     study = SimpleNamespace(meters=[], actuated=[], yields=[SimpleNamespace(name=f"y{number}", capacities=None) for number in range(10)])
     told = list(Builder._left_out(SimpleNamespace(study=study)))
-    assert len(told) == 9 and told[7].startswith("y7: ") and told[8] == "and 2 more who don't give way in this network"
+    assert len(told) == 9 and told[7].startswith("y7: ") and told[8] == "and 2 more that don't give way in this network"
 
 
 def test_build_tells_that_nobody_gives_way_yet(tmp_path, tool):
     write(tmp_path, SIDE.format(main=600, low=300, high=600))
     status, out, _ = tool("build", "study.toml")
-    assert status == 0 and "warning: merges[1], side: nobody gives way in this network; `ctm-tools run`" in out
+    assert status == 0 and "warning: merges[1], side: doesn't give way in this network; `ctm-tools run`" in out
 
 
 @pytest.mark.parametrize("name, traffic, delay", [

@@ -20,7 +20,7 @@ PAPER = {"1": 0.0, "1.2": 59.13, "1.5": 216.5}  # vehicle-hours by the traffic, 
 def test_sweeps_and_choices_have_the_delays_of_paper(tool, recording_program, command, file):
     where = ("-o", "rows" if command == "sweep" else file)
     status, out, err = tool(command, STOP, "--vary", "demand=1,1.2,1.5", *where)
-    assert status == 0 and "nobody gives way" not in out, err
+    assert status == 0 and "doesn't give way" not in out, err
     frame = pandas.read_csv(file)
     found = dict(zip(frame.demand.map("{:g}".format), frame.delay_vehicle_hours))
     assert found == pytest.approx(PAPER, rel=0.006, abs=0.01)

@@ -21,7 +21,7 @@ use Rattle.call_beginning.specs.UsedCutting.{IsCuttingBy, IsCuttingOf, regions_a
 use Rattle.call_beginning.specs.UsedRegions.{regions_by}
 
 -- a number of regions that a cutting may have
-abbrev IsSome : (regions : ℕ) → Type 0
+abbrev pub IsSome : (regions : ℕ) → Type 0
 IsSome regions = (1 ≤ regions) × (regions ≤ most_regions)
 
 chosen-some : (cells workers : ℕ) → (1 ≤ workers) × (workers ≤ 16) → IsSome (regions_by cells workers Auto)
@@ -45,10 +45,14 @@ cutting-by Even net k cut some enough is =
     (even_cutting-IsCutting (length net.cells) k some.0 some.1 enough))
 cutting-by Grown net k cut some enough is = elim is.candidate [ inl in_file ↦ in_file.cutting | inr in_walk ↦ in_walk.cutting ]
 
+-- how many regions a request asks for that is in range
+pub asked-some : (net : Network) (request : Request) → IsNetwork net → IsInRange request → IsSome (regions_asked net request)
+asked-some net request sound in_range =
+    let wanted = wanted-some (length net.cells) request.workers request.regions in_range.workers in_range.regions in
+    (omega (arith, wanted.0, sound.some_cells), omega (arith, wanted.1))
+
 pub cutting-used : (net : Network) (request : Request) (cut : List ℕ) → IsNetwork net → IsInRange request → IsCuttingOf net request cut → IsCutting (length net.cells) cut
 cutting-used net request cut sound in_range used = elim (cases_eq (length net.regions) 0) [
-  | inl none ↦
-      let wanted = wanted-some (length net.cells) request.workers request.regions in_range.workers in_range.regions in
-      cutting-by request.cut net (regions_asked net request) cut (omega (arith, wanted.0, sound.some_cells), omega (arith, wanted.1)) (omega arith) (used.asked none)
+  | inl none ↦ cutting-by request.cut net (regions_asked net request) cut (asked-some net request sound in_range) (omega arith) (used.asked none)
   | inr own ↦ subst (IsCutting (length net.cells)) (sym (used.own own)) (own-cutting net sound own)
 ]

@@ -1,3 +1,4 @@
 pub mod CommandLemmas
+pub mod RangeLemmas
 pub mod RefusalLemmas
 pub mod RequestLemmas

@@ -1,6 +1,6 @@
 -- A converted file is the same network.
-use Rattle.std.proofs.Common.{ℕ, ◌≡◌, ◌≤◌, ◌+◌, ◌==◌, ◌&&◌, Bool, true, false, List, [], ◌∷◌, Ok, Err, Some, None, refl, sym, ap, subst, ◌∙◌, arith, drop, length}
-use Rattle.std.specs.Prelude.{Option, Result, bytes_eq, codes, if◌then◌else◌, max, nat_le, nat_lt, ok_or}
+use Rattle.std.proofs.Common.{ℕ, ◌≡◌, ◌≤◌, ◌+◌, ◌==◌, ◌&&◌, Bool, true, false, List, [], ◌∷◌, Ok, Some, None, refl, sym, ap, subst, ◌∙◌, arith, drop, length}
+use Rattle.std.specs.Prelude.{Option, bytes_eq, codes, if◌then◌else◌, max, nat_le, nat_lt, ok_or}
 use Rattle.std.specs.Cmp.Lexicographic.{bytes_decides}
 use Rattle.fixed_flow.specs.Limits.{most_parts}
 use Rattle.std.proofs.lemmas.List.Elements.{All-nil}
@@ -13,14 +13,12 @@ use Rattle.network_file.specs.Formats.{format_of}
 use Rattle.network_file.specs.Network.{Network, load_of}
 use Rattle.network_file.specs.Reading.{at_place, network_in_all, network_of, read_file, read_records, cutting_of_draft}
 use Rattle.converted_file.specs.SameNetwork.{SaysTheSame}
-use Rattle.network_file.specs.Taking.{take_record}
 use Rattle.network_file.specs.declared.cell.Cell.{Cell}
-use Rattle.record_fields.specs.declared.code.Code.{Code}
 use Rattle.record_fields.specs.declared.code.Code.TheVariants.{NoHeader, NoSteps, NoCells, TooMuch}
 use Rattle.converted_file.proofs.PlainLines.{AreLinesOf, ArePlainRecords, IsPlainRecord, file_records_of-converted, header_2, header_2-plain, header_3, header_3-plain, lines_in-2, lines_in-3}
 use Rattle.converted_file.proofs.PlainText.{IsPlain}
 use Rattle.network_file.proofs.NetworkFacts.{few_records}
-use Rattle.network_file.proofs.ReadingLemmas.{network_of-headed, read_records-none, read_records-taken}
+use Rattle.network_file.proofs.ReadingLemmas.{at_place-ok, network_of-headed, read_records-first, read_records-none, read_records-taken}
 use Rattle.record_fields.proofs.CheckLemmas.{bind-as, bind-ok, must-as, must-ok}
 use Rattle.converted_file.proofs.TakenFields.{ArePlainNames}
 use Rattle.converted_file.proofs.TakenKinds.{in_format}
@@ -51,23 +49,11 @@ network_in_all-alike other draft net made =
       ap (λ (net : Network). net.format) (sym same),
     )
 
-at_place-ok : {A : Type 0} (place : ℕ) (m : Result A Code) (a : A) → at_place place m ≡ Ok a → m ≡ Ok a
-at_place-ok place (Ok a) b made = ap Ok (cc made)
-at_place-ok place (Err code) b made = cc made
-
 whole-alike : (other place : ℕ) (draft : Draft) (net : Network) → at_place place (network_in_all draft) ≡ Ok net →
     (at_place place (network_in_all (in_format other draft)) ≡ Ok (net_in_format other net)) × (net.format ≡ draft.format)
 whole-alike other place draft net made =
     let (alike, same) = network_in_all-alike other draft net (at_place-ok place (network_in_all draft) net made) in
     (ap (at_place place) alike, same)
-
--- a record that was taken, and what follows it
-read_records-first : (place : ℕ) (draft : Draft) (net : Network) (fields : List (List ℕ)) (rest : List (List (List ℕ))) → read_records place draft (fields ∷ rest) ≡ Ok net
-    → (more : Draft) × ((take_record draft fields ≡ Ok more) × (read_records (place + 1) more rest ≡ Ok net))
-unfolding read_records
-read_records-first place draft net fields rest read =
-    let (more, (taken, read_rest)) = bind-ok (at_place place (take_record draft fields)) (λ more. read_records (place + 1) more rest) net read in
-    (more, (at_place-ok place (take_record draft fields) more taken, read_rest))
 
 -- records that are read without a fault are plain, and are read alike in a format that has as much
 read_records-alike : (other place : ℕ) (draft : Draft) (net : Network) (rows : List (List (List ℕ))) → HasAsMuch draft.format other → ArePlainNames draft.cells →

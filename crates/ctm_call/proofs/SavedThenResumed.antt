@@ -13,8 +13,9 @@ use Rattle.network_file.specs.declared.fault.NetFault.{NetFault}
 use Rattle.call_ending.specs.Why.{Why}
 use Rattle.call_beginning.specs.Input.{large_input, most_input}
 use Rattle.call_beginning.specs.Task.{task_of}
-use Rattle.call_beginning.proofs.SoundNetwork.{network_of-sound}
+use Rattle.network_file.proofs.SoundNetwork.{network_of-sound}
 use Rattle.run_modes.proofs.PlainRun.{run_refused-plain, run_text-plain}
+use Rattle.saved_modes.specs.ResumeMode.{resume_refused}
 use Rattle.saved_modes.specs.SaveMode.{IsSavedRun, IsSaveText}
 use Rattle.saved_modes.proofs.SavedRun.{saved-resumed}
 use Rattle.ctm_call.specs.Answer.{IsTextBy, IsTextTo, why_by}
@@ -24,6 +25,18 @@ use Rattle.ctm_call.proofs.AnswerFacts.{why-fits}
 long-none : (long : Bool) (large : Why) (later : Option Why) → option_or (if long then Some large else None) later ≡ None → long ≡ false
 long-none true large later none = absurd cc
 long-none false large later none = refl
+
+-- what stands against neither an input's length nor its mode
+later-none : (long : Bool) (large : Why) (later : Option Why) → option_or (if long then Some large else None) later ≡ None → later ≡ None
+later-none true large later none = absurd cc
+later-none false large later none = none
+
+-- nothing stands against a saved text that is answered, as `resumed-plain` asks
+pub resumed-unrefused : (resume : Request) (saved text : List ℕ) → resume.mode ≡ Resume → IsTextTo resume saved text → resume_refused (task_of resume saved) ≡ None
+resumed-unrefused resume saved text mode answers =
+    let task = task_of resume saved in
+    let none = later-none (nat_lt (most_input resume.mode) (length saved)) large_input (why_by resume.mode task) answers.0 in
+    subst (λ m. why_by m task ≡ None) mode none
 
 -- the texts that answer a request against which nothing stands are those of the mode
 texts-by : (request : Request) (mode : Mode) (input text : List ℕ) → request.mode ≡ mode → length input ≤ most_input mode → why_by mode (task_of request input) ≡ None →
@@ -57,7 +70,7 @@ saved-of save input saved mode answers =
     let run = network-with (network_of input) (λ net. IsSavedRun net save input saved) text in
     record { fits = grind (arith, nat_tests, short); net = run.0; reads = run.1; is = run.2 }
 
--- whatever else the three are asked with, in range (`requested-in_range`), where `run` records nothing, as `resume` does
+-- whatever else the three are asked with, in range (`request_of-in_range`), where `run` records nothing, as `resume` does
 pub resumed-as-run : (save resume run : Request) (input saved text : List ℕ) → IsInRange save → save.mode ≡ Save → resume.mode ≡ Resume → run.mode ≡ Run →
     run.every ≡ 0 → IsTextTo save input saved → IsTextTo resume saved text ↔ IsTextTo run input text
 resumed-as-run save resume run input saved text in_range saves resumes runs never answers =

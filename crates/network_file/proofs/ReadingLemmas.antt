@@ -1,5 +1,5 @@
 -- The definition of a file's network, by its header and by one record more.
-use Rattle.std.proofs.Common.{ℕ, ◌≡◌, ◌+◌, Some, None, List, [], ◌∷◌, Ok, Err, ◌∙◌, refl}
+use Rattle.std.proofs.Common.{ℕ, ◌≡◌, ◌+◌, Some, None, List, [], ◌∷◌, Ok, Err, ap, ◌∙◌, refl}
 use Rattle.std.specs.Prelude.{Result}
 use Rattle.no_memory.specs.Answers.{Answers, IsRefusal}
 use Rattle.network_file.specs.Draft.{Draft, empty_draft}
@@ -11,6 +11,7 @@ use Rattle.network_file.specs.Faults.{fault_at}
 use Rattle.network_file.specs.Refusals.{refusal_at}
 use Rattle.network_file.specs.Taking.{take_record}
 use Rattle.record_fields.specs.declared.code.Code.{Code}
+use Rattle.record_fields.proofs.CheckLemmas.{bind-ok}
 use Rattle.record_fields.specs.declared.code.Code.TheVariants.{NoHeader}
 use Rattle.network_file.specs.declared.fault.NetFault.{NetFault}
 use Rattle.no_memory.specs.declared.refused.Refused.{Refused}
@@ -33,6 +34,19 @@ network_of-headed bytes header rest format all headed = rw (all, headed) refl
 pub read_records-none : (place : ℕ) (draft : Draft) → read_records place draft [] ≡ at_place place (network_in_all draft)
 unfolding read_records
 read_records-none place draft = refl
+
+-- a place is added to a fault alone
+pub at_place-ok : {A : Type 0} (place : ℕ) (m : Result A Code) (a : A) → at_place place m ≡ Ok a → m ≡ Ok a
+at_place-ok place (Ok a) b made = ap Ok (cc made)
+at_place-ok place (Err code) b made = cc made
+
+-- a record that was taken, and what follows it
+pub read_records-first : (place : ℕ) (draft : Draft) (net : Network) (fields : List (List ℕ)) (rest : List (List (List ℕ))) → read_records place draft (fields ∷ rest) ≡ Ok net
+    → (more : Draft) × ((take_record draft fields ≡ Ok more) × (read_records (place + 1) more rest ≡ Ok net))
+unfolding read_records
+read_records-first place draft net fields rest read =
+    let (more, (taken, read_rest)) = bind-ok (at_place place (take_record draft fields)) (λ more. read_records (place + 1) more rest) net read in
+    (more, (at_place-ok place (take_record draft fields) more taken, read_rest))
 
 pub read_records-taken : (place : ℕ) (draft more : Draft) (fields : List (List ℕ)) (rest : List (List (List ℕ))) → take_record draft fields ≡ Ok more
     → read_records place draft (fields ∷ rest) ≡ read_records (place + 1) more rest

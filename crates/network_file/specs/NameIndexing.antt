@@ -5,7 +5,7 @@ use Rattle.network_file.specs.Cells.{cell_named, name_at}
 use Rattle.network_file.specs.declared.buckets.Buckets.{Buckets}
 use Rattle.network_file.specs.declared.cell.Cell.{Cell}
 use Rattle.network_file.specs.declared.name_index.NameIndex.{NameIndex}
-use Rattle.step_plan.specs.Limits as plan
+use Rattle.step_plan.specs.Sound.{most_demands}
 
 -- the bucket of a name: names that differ in the last byte alone lie side by side
 unfoldable pub bucket_of : Buckets → List ℕ → ℕ
@@ -22,7 +22,7 @@ pub record IsChainEnd (bucket_at : ℕ → ℕ) (n bucket end : ℕ) : Type 0 wh
 
 -- the index is of these cells, of which no two have one name
 pub record IsIndexOf (index : NameIndex) (cells : List Cell) : Type 0 where
-  pub few : length cells ≤ plan.most_demands
+  pub few : length cells ≤ most_demands
   pub apart : (i : ℕ) → i < length cells → cell_named cells (name_at cells i) ≡ Some i
   pub one_each : length index.earlier.items ≡ length cells
   pub buckets : length index.ends.items ≡ index.buckets.last + 1

@@ -2,9 +2,10 @@ use crate::freed::Freed;
 use crate::sight::{Watched, Watching};
 use crate::taken::Taken;
 
-/// Whom a run tells of its moments as they come. Each call returns. It may act on the run through means of its own, and so can
-/// hold it at a chosen moment. Ghost facts say what the observer was told, and only its calls give them. Each call uses up a
-/// token. A field, the state that the workers of a run share, alone makes tokens, each when its moment comes.
+/// Whom a run tells of its moments as they come. Each call returns, or ends the process. It may act on the run through means
+/// of its own, and so can hold it at a chosen moment. Ghost facts say what the observer was told, and only its calls give them.
+/// Each call uses up a token. A field, the state that the workers of a run share, alone makes tokens, each when its moment
+/// comes.
 pub trait Observer: Sync {
     ghost use Rattle.std.specs.Prelude.{ℕ, List};
     ghost use Rattle.region_slots.specs.CutRun.{CutRun};

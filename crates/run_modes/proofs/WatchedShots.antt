@@ -10,7 +10,7 @@ use Rattle.snapshot.specs.Shots.{IsShotBetween, goal_of}
 use Rattle.snapshot.proofs.ShotLaws.{shot-between}
 use Rattle.command_words.specs.declared.request.Request.{Request}
 use Rattle.call_beginning.specs.Task.{Task}
-use Rattle.call_beginning.proofs.SoundNetwork.{network_of-sound}
+use Rattle.network_file.proofs.SoundNetwork.{network_of-sound}
 use Rattle.run_modes.specs.WatchMode.{HasShotsAndReport, IsWatchText}
 
 -- each shot is one between its goals, whose books balance and whose roads keep their rooms

@@ -19,7 +19,7 @@ use Rattle.delay_report.specs.Report.{report_of, report_with}
 use Rattle.delay_report.proofs.FromStart.{last_rows-true, report_with-none, state_note}
 use Rattle.call_beginning.specs.NetworkInput.{why_of_network}
 use Rattle.call_beginning.specs.Task.{Task}
-use Rattle.call_beginning.proofs.SoundNetwork.{network_of-sound}
+use Rattle.network_file.proofs.SoundNetwork.{network_of-sound}
 use Rattle.saved_modes.specs.ResumeMode.{IsGoneOn, IsResumeText, resume_refused, why_by_content, why_by_cutting}
 use Rattle.saved_modes.proofs.Resuming.{why-unless}
 

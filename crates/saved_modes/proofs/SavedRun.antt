@@ -133,9 +133,8 @@ module _ (net : Network) (request : Request) (input text : List ℕ) (sound : Is
   again : content_of text ≡ Some content
   again = ap content_of is.saved ∙ content_of-saved_text content is_content
 
-  -- it is read again as a run of this network, cut so, that goes on from there as from the beginning
-  pub saved-begins : IsSomeAnd (content_of text) (λ content. HasTrueStart content net is.cut)
-  saved-begins = subst (λ found. IsSomeAnd found (λ content. HasTrueStart content net is.cut)) (sym again) (record {
+  begins : IsSomeAnd (content_of text) (λ content. HasTrueStart content net is.cut)
+  begins = subst (λ found. IsSomeAnd found (λ content. HasTrueStart content net is.cut)) (sym again) (record {
     cut_so = record { network = reads; cutting = cutting-again };
     can_start = moment-starts net is.cut (start_in content) sound moment;
     true_start = moment-true net is.cut (start_in content) moment;
@@ -147,6 +146,15 @@ module _ (net : Network) (request : Request) (input text : List ℕ) (sound : Is
       subst (λ text. length text ≤ most_saved) (sym is.saved)
       (saved_text-short content is_content few (each-line (λ line. line.region < most_regions) (λ i there. omega (arith, region_at-there is.cut i, few_regions))))
 
-  -- `resume` ends it with the report of the plain recurrences, which `run` writes where nothing is recorded
-  pub saved-resumed : IsResumedAs (report_of net 0) text
-  saved-resumed = begins-resumed_as net is.cut text sound saved-begins saved-short
+  resumed : IsResumedAs (report_of net 0) text
+  resumed = begins-resumed_as net is.cut text sound begins saved-short
+
+-- a saved text is read again as a run of this network, cut so, that goes on from there as from the beginning
+pub saved-begins : (net : Network) (request : Request) (input text : List ℕ) → IsNetwork net → IsInRange request → network_of input ≡ Ok net →
+    length input ≤ most_bytes → (is : IsSavedRun net request input text) → IsSomeAnd (content_of text) (λ content. HasTrueStart content net is.cut)
+saved-begins net request input text sound in_range reads short is = begins net request input text sound in_range reads short is
+
+-- `resume` ends it with the report of the plain recurrences, which `run` writes where nothing is recorded
+pub saved-resumed : (net : Network) (request : Request) (input text : List ℕ) → IsNetwork net → IsInRange request → network_of input ≡ Ok net →
+    length input ≤ most_bytes → IsSavedRun net request input text → IsResumedAs (report_of net 0) text
+saved-resumed net request input text sound in_range reads short is = resumed net request input text sound in_range reads short is

@@ -8,9 +8,8 @@ use Rattle.std.proofs.lemmas.List.Elements.{All-nil, All-weaker}
 use Rattle.std.proofs.lemmas.List.FromFn.{length-range_with_len, get_or-range_with_len}
 use Rattle.std.proofs.lemmas.List.Sums.{sum_by-cons, sum_by-le, get_or-le-sum_by}
 use Rattle.fixed_flow.specs.Limits.{most_parts}
-use Rattle.step_plan.specs.Limits.{most_demands}
 use Rattle.step_plan.specs.Records.{CellRecords, DemandRecord, PlannedCell, PlanRecords, SpeedRecord, bare_cell, in_range, planned_at, records_at}
-use Rattle.step_plan.specs.Sound.{AreSound, IsSoundDemand, IsSoundPlan}
+use Rattle.step_plan.specs.Sound.{AreSound, IsSoundDemand, IsSoundPlan, most_demands}
 use Rattle.step_plan.specs.Capacity.{capacity_at}
 use Rattle.step_plan.specs.Last.{last_said}
 use Rattle.step_plan.specs.Demand.{demand_at}

@@ -5,9 +5,8 @@ use Rattle.std.proofs.lemmas.List.Elements.{All-nil, All-push, All-set}
 use Rattle.step_plan.specs.Adding.{with_own, with_record}
 use Rattle.step_plan.specs.Counts.{counts_of}
 use Rattle.step_plan.specs.Counted.{with_one}
-use Rattle.step_plan.specs.Limits.{most_cells, most_demands}
 use Rattle.step_plan.specs.Records.{CellRecords, PlannedCell, PlanRecords, bare, bare_cell, planned_at, records_at, with_cell}
-use Rattle.step_plan.specs.Sound.{AreSound, HasRoom, IsCounted, IsSoundDemand, IsSoundLimit, IsSoundPlan, IsSoundRecord, IsSoundSpeed, IsSoundTurn}
+use Rattle.step_plan.specs.Sound.{AreSound, HasRoom, IsCounted, IsSoundDemand, IsSoundLimit, IsSoundPlan, IsSoundRecord, IsSoundSpeed, IsSoundTurn, most_cells, most_demands}
 use Rattle.step_plan.specs.declared.cell_record.CellRecord.{CellRecord}
 use Rattle.step_plan.specs.declared.cell_record.CellRecord.TheVariants.{Signal, Limit, Demand, Turn, Speed}
 use Rattle.step_plan.specs.declared.plan_counts.PlanCounts.{PlanCounts}

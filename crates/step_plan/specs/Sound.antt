@@ -2,12 +2,20 @@ use Rattle.std.specs.Prelude.{◌≡◌, ℕ, ◌<◌, ◌≤◌, false, is_some
 use Rattle.fixed_flow.specs.Limits.{most_parts, most_ratio}
 use Rattle.step_plan.specs.Counts.{counts_of}
 use Rattle.step_plan.specs.Green.{signal_of}
-use Rattle.step_plan.specs.Limits.{most_cells, most_demands, most_steps}
+use Rattle.step_plan.specs.Limits.{most_steps}
 use Rattle.step_plan.specs.Records.{CellRecords, DemandRecord, LimitRecord, PlanRecords, SignalRecord, SpeedRecord, TurnRecord}
 use Rattle.step_plan.specs.SpeedBounds.{IsSpeed}
 use Rattle.step_plan.specs.declared.cell_record.CellRecord.{CellRecord}
 use Rattle.step_plan.specs.declared.cell_record.CellRecord.TheVariants.{Signal, Limit, Demand, Turn, Speed}
 use Rattle.step_plan.specs.declared.plan_counts.PlanCounts.{PlanCounts}
+
+-- the most cells of a plan, so that each has a number of 32 bits
+abbrev pub most_cells : ℕ
+most_cells = 4_294_967_295
+
+-- the most demand records of a plan
+abbrev pub most_demands : ℕ
+most_demands = 200_000
 
 -- the offset and the green range lie in the cycle
 pub record IsSoundSignal (signal : SignalRecord) : Type 0 where

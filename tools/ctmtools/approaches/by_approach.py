@@ -104,6 +104,9 @@ class Service:
     def __init__(self, stages: Stages, drawn: bool = False) -> None:
         self.stages, self.report, self.drawn = stages, stages.report, drawn
         self.passing = [Passing(self.report, one, stages.last(one)) for one in stages.movements]
+        for one in self.passing:
+            if one.movement.control == "signal" and one.movement.lanes == 1:
+                one.behind = next((other for other in self.passing if other.turns_in(one.movement)), None)
 
     def rows(self, begin: int, end: int) -> list[Row]:
         """A row for each movement from a recorded step to another."""
@@ -121,12 +124,7 @@ class Service:
         """The row of a movement; its queue is that of its lanes, with all who stand in them."""
         movement, passing, report = self.stages.movements[place], self.passing[place], self.report
         beside = [k for k, one in enumerate(self.stages.movements) if self.stages.last(one) in movement.beside] or [place]
-        asked, may = sum(span.demand[k] for k in beside), passing.mean(*steps)
-        if passing.gives_way:
-            ratio = span.demand[place] / may if may > 0 else numpy.inf
-        else:
-            ratio = asked / may if may > 0 else numpy.inf
-            may = may * span.demand[place] / asked if asked > 0 else may
+        may, ratio = self._may_pass(place, sum(span.demand[k] for k in beside), steps, span.demand)
         metre = self.stages.jam * movement.lanes
         queued = sum(span.waits[k] for k in beside) / report.lasting[rows, 0]
         mean = sum(float(report.units.hours(span.waits[k].sum())) + span.random[k] for k in beside) / span.hours
@@ -136,6 +134,18 @@ class Service:
         return Row(float(span.demand[place]), float(self.stages.passed([self.stages.last(movement)])[rows].sum()), may, float(ratio),
                    float(report.units.hours(span.waits[place].sum())), span.random[place], mean / metre, most / metre,
                    movement.lanes, over, movement.control)
+
+    def _may_pass(self, place: int, asked: float, steps: tuple[int, int], demand: Numbers) -> tuple[float, float]:
+        """What may pass of a movement at the demand of each, and what is asked of that; of its lanes it has its part."""
+        passing, flow = self.passing[place], float(demand[place])
+        turning = sum(float(one) for one, other in zip(demand, self.passing) if other is passing.behind)
+        if passing.behind and turning:
+            may = passing.behind.mean(*steps) * flow / turning
+            return may, flow / may if flow else 0.0
+        may = passing.mean(*steps)
+        if passing.gives_way:
+            return may, flow / may if may > 0 else numpy.inf
+        return may * flow / asked if asked > 0 else may, asked / may if may > 0 else numpy.inf
 
 
 def queue_courses(report: Report, bounds: Sequence[int]) -> dict[str, Numbers]:

@@ -138,6 +138,7 @@ class Passing:
     report: Report
     movement: ApproachMovement
     own: str  # the cell that it leaves last
+    behind: Passing | None = None  # who turns left in the same single lane once the others let it, and holds up all of it till then
 
     @cached_property
     def capacities(self) -> Numbers:
@@ -156,6 +157,10 @@ class Passing:
     def gives_way(self) -> bool:
         """Whether what passes is let by the gaps of others."""
         return self.movement.control not in ("", "signal")
+
+    def turns_in(self, other: ApproachMovement) -> bool:
+        """Whether it gives way at a green in the lanes of another."""
+        return self.movement.control == "permitted" and self.own in other.beside
 
     def mean(self, begin: int, end: int) -> float:
         """What may pass from a step to another in their mean."""
@@ -183,6 +188,9 @@ class Passing:
             part = numpy.where(part > 0, part, 1.0)
             every, may = flows[self.own] / part, may / part
         hours = numpy.diff(bounds) / hour_of(self.report)
+        if self.behind:
+            lane = [(flow, most) if vehicles else own for own, (vehicles, flow, most, _) in zip(zip(every, may), self.behind._rows)]
+            every, may = numpy.array(lane).T
         return list(zip((flows[self.own] * hours).tolist(), every.tolist(), may.tolist(), hours.tolist()))
 
     def lost(self, begin: int, end: int) -> float:

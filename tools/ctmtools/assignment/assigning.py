@@ -93,7 +93,7 @@ class Assignment:
 
     def __init__(self, study: Scenario, workers: int | None = None, program: str | None = None) -> None:
         if not study.trips:
-            raise Problem(f"{study.path}: trips: are missing; without them nobody chooses a way")
+            raise Problem(f"{study.path}: trips: are missing; without them no driver chooses a route")
         self.study, self.workers, self.program = study, workers, program
         self.let_through = let_through(study)
         study.yields = [replace(one, capacities=[]) for one in study.yields]  # the rounds work out what passes
@@ -101,7 +101,7 @@ class Assignment:
         self.shared = SharedNetwork(builder.build())
         self.network: Network = self.shared.built.network
         if self.network.demands.empty:
-            raise Problem(f"{study.path}: trips: nobody sets out, to a millionth of a vehicle in a step")
+            raise Problem(f"{study.path}: trips: no vehicle departs, to a millionth of a vehicle in a step")
         self.legs = Legs(self.network)
         self.passings = Passings(self.legs)
         self.passing: Passing = self.passings.free()

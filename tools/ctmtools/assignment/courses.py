@@ -19,7 +19,7 @@ FINEST = 30  # spans of shares in an interval of choice, at most
 class Courses:
     """The ways as they stand, by one passing: a row for each way, pair by pair.
 
-    `arrived` has when those arrive who set out at the bounds of the departures. `origins` has a row for each way and each leg of
+    `arrived` has when those arrive who depart at the bounds of the departures. `origins` has a row for each way and each leg of
     it but the first: who comes to the leg at each bound of the shares set out at the bound of the departures of this number,
     which has a fraction; `rows` are the ways of these rows and `into` joins them to the legs.
     """

@@ -26,7 +26,7 @@ def ways_of_study(path: str | Path) -> list[WayRow]:
     """The ways of a study that `assign` made."""
     study = read_scenario(path)
     if study.ways is None:
-        raise Problem(f"{path}: has no ways; `ctm-tools assign` makes a study that has them")
+        raise Problem(f"{path}: has no routes; `ctm-tools assign` makes a study that has them")
     try:
         ways = file_beside(study.path, study.ways, "assigned.ways")
     except Problem as problem:
@@ -40,8 +40,8 @@ def divert(assignment: Assignment, rows: Sequence[WayRow], informed: float, afte
     begins = numpy.array([departures.begins(i) for i in range(departures.intervals)], dtype=float)
     parts = numpy.where(begins >= (0 if after is None else after), informed, 0.0)
     if after is not None and not departures.by_interval[:, begins >= after].any():
-        raise Problem(f"{assignment.study.path}: --after: nobody sets out in an interval of choice that begins then or later, so "
-                      "nobody would choose anew")
+        raise Problem(f"{assignment.study.path}: --after: no driver departs in an interval of choice that begins then or later, so "
+                      "none would choose anew")
     by_pair: dict[tuple[str, str], list[WayRow]] = {}
     for row in rows:
         by_pair.setdefault((row.source, row.into), []).append(row)
@@ -57,7 +57,7 @@ def divert(assignment: Assignment, rows: Sequence[WayRow], informed: float, afte
 
 
 def _way(assignment: Assignment, choice: Choice, roads: tuple[str, ...]) -> RouteLegs:
-    place = f"the earlier assignment's ways from {choice.source} to {choice.into}"
+    place = f"the earlier assignment's routes from {choice.source} to {choice.into}"
     return legs_of_route(Route(choice.source, choice.into, list(roads), [], place), assignment.study, assignment.legs,
                   assignment.shared.built.units)
 
@@ -71,13 +71,13 @@ def _parts(assignment: Assignment, choice: Choice, rows: Sequence[WayRow], ways:
     taken = numpy.zeros((len(choice.ways), departures.intervals))
     for row in rows:
         if row.start not in clocks:
-            raise Problem(f"{study.path}: the earlier assignment has drivers from {choice.source} to {choice.into} who set out at "
+            raise Problem(f"{study.path}: the earlier assignment has drivers from {choice.source} to {choice.into} who depart at "
                           f"{row.start}, at which no interval of choice begins here; {ALIKE}")
         taken[choice.ways.index(ways[row.roads]), clocks.index(row.start)] += row.vehicles
     totals = taken.sum(axis=0)
     lost = numpy.flatnonzero((vehicles > 2 * LEAST) & (totals == 0))
     if len(lost):
-        raise Problem(f"{study.path}: the earlier assignment has nobody from {choice.source} to {choice.into} who sets out at "
+        raise Problem(f"{study.path}: the earlier assignment has no driver from {choice.source} to {choice.into} who departs at "
                       f"{clocks[lost[0]]}; {ALIKE}")
     taken[0] += (vehicles > 0) & (totals == 0)  # so few that the earlier assignment didn't write them
     parts: Numbers = taken / numpy.where(taken.any(axis=0), taken.sum(axis=0), 1)

@@ -32,7 +32,7 @@ def given_choice(study: Scenario, legs: Legs, units: Units, trips: Trips, depart
         choice.put(way)
     if not choice.ways:
         last = legs.farthest(trips.source)
-        raise Problem(f"{study.path}: {trips.place}: no way leads from {trips.source} to {trips.into}; the last road that is "
+        raise Problem(f"{study.path}: {trips.place}: no route leads from {trips.source} to {trips.into}; the last road that is "
                       f"reached is {road_of(units, last)}")
     return choice
 
@@ -50,7 +50,7 @@ def _share(choice: Choice, routes: Sequence[tuple[Route, RouteLegs]], study: Sce
         if not parts.any():
             clock = clock_text(float(study.start) + middle)
             raise Problem(f"{study.path}: {routes[0][0].place}.share: no route from {choice.source} to {choice.into} has a "
-                          f"share at {clock}, when drivers set out")
+                          f"share at {clock}, when drivers depart")
         choice.chosen[:, interval] = parts / parts.sum()
     choice.kept = choice.chosen.copy()
 
@@ -82,7 +82,7 @@ def _on(graph: networkx.DiGraph, start: str, targets: Sequence[str], place: str,
             while before[path[-1]] != start:
                 path.append(before[path[-1]])
             return path[::-1]
-    raise Problem(f"{place}: no way leads from {start} to {name}")
+    raise Problem(f"{place}: no route leads from {start} to {name}")
 
 
 def road_of(units: Units, cell: str) -> str:

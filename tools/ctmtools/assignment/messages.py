@@ -27,7 +27,7 @@ def not_settled(assignment: Assignment, rounds: Sequence[Round], gap: float) -> 
         of = f" of round {last.number}, which is written as the best," if last.number < made else ""
         which = f"the gap{of} is {last.gap.relative:.4f}" if last.gap.relative >= gap else \
             f"{last.moved:.2%} of what comes to branches still moves between them" if last.moved >= gap else \
-            f"what passes of those who give way still moves by {last.limits:.1%}"
+            f"what gaps let pass still changes by {last.limits:.1%}"
         before = rounds[-LAST - 1].gap.relative if len(rounds) > LAST else float("inf")
         why = "it still falls, so more rounds help" if last.gap.relative < STALLED * before else \
             "it no longer falls: a shorter interval of choice or a longer study may help"
@@ -35,13 +35,13 @@ def not_settled(assignment: Assignment, rounds: Sequence[Round], gap: float) -> 
         yield f"warning: after {made} rounds {which}{limit}; {why}{_most_of(assignment)}"
     if assignment.crowded:
         source, into = min(assignment.crowded)
-        yield (f"warning: {len(assignment.crowded)} pairs have as many ways as routing.ways says, and quicker ones were found, as "
-               f"from {source} to {into}; more ways may help")
+        yield (f"warning: {len(assignment.crowded)} pairs have as many routes as routing.ways says, and quicker ones were found, as "
+               f"from {source} to {into}; a greater routing.ways may help")
     assert assignment.report is not None  # a round was made
     inside = float(assignment.report.sums.inside)
     if inside > 1:
-        yield (f"warning: {number_text(inside)} vehicles are still inside at the end, and their times go on as if the queues did; a "
-               "longer study tells them")
+        yield (f"warning: {number_text(inside)} vehicles are still inside at the end, and their times are taken as if the queues went on; a "
+               "longer study has them")
 
 
 def _most_of(assignment: Assignment) -> str:
@@ -53,15 +53,15 @@ def _most_of(assignment: Assignment) -> str:
             units, interval = assignment.shared.built.units, int(numpy.argmax(excess))
             most = float(excess.max())
             seconds = (units.start or 0) + assignment.departures.begins(interval) * (units.step or 0)
-            where = f"; most of it is of {choice.source} to {choice.into}, setting out at {clock_text(seconds)}"
+            where = f"; most of it is of drivers from {choice.source} to {choice.into} who depart at {clock_text(seconds)}"
     return where
 
 
 def rounded_lines(assignment: Assignment) -> Iterator[str]:
     """What the rounding of the shares did, and what closures let through."""
     for place, flow in assignment.let_through.items():
-        yield (f"{place}: is on a branch of a diverge, so it lets {number_text(float(flow))} vehicles/h through, those whom the least "
-               "share, 1 in 1,001, leads there")
+        yield (f"{place}: is on a branch of a diverge, so it lets {number_text(float(flow))} vehicles/h through, which the least "
+               "share, 1 in 1,001, sends there")
     found = assignment.rounded()
     if found.intervals:
         yield (f"rounded: {found.intervals} of {found.of} shares by more than 0.1 % of the lesser branch, at most by "
@@ -82,7 +82,7 @@ def settled_lines(study: Scenario, last: Round, final: Round) -> Iterator[str]:
         yield from ("", f"warning: greens that follow traffic are worked out in the run of the written study alone, which has {found}; "
                     "drivers chose without them")
     elif study.yields:
-        yield from ("", f"The run of the written study works out anew what passes of those who give way; it has {found}.")
+        yield from ("", f"The run of the written study works out anew what gaps let pass; it has {found}.")
 
 
 def pair_lines(rows: Sequence[WayRow]) -> Iterator[str]:
@@ -101,4 +101,4 @@ def pair_lines(rows: Sequence[WayRow]) -> Iterator[str]:
     yield ""
     yield from table(lines, right=(2, 3))
     if len(ways) > MOST_ROWS:
-        yield f"  and {len(ways) - MOST_ROWS} more ways"
+        yield f"  and {len(ways) - MOST_ROWS} more routes"

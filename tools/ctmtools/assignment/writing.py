@@ -47,7 +47,7 @@ class Places:
         if self.study.suffix != ".toml":
             raise Problem(f"{self.study}: a study's name ends with .toml")
         guard_folder(self.study)
-        for study, what in ((source, "is the study that is assigned"), (earlier, "is the assignment whose ways the drivers have")):
+        for study, what in ((source, "is the study that is assigned"), (earlier, "is the assignment whose routes the drivers have")):
             if study is not None and self.study.resolve() == study.resolve():
                 raise Problem(f"{self.study}: {what}; name another file with -o")
         guard_output(self.study)

@@ -43,7 +43,7 @@ Examples:
   ctm-tools assign examples/bypass-closed.toml --from bypass.assigned.toml --informed 0,0.3,1 --after 07:40
 
 Written are the study with the shares that came out, NAME.assigned.toml, which `run`, `sweep`, `optimise` and `branch` take,
-its network, its report, the ways of each pair and interval as NAME.assigned.ways.csv, and pictures of the gap and of the ways.
+its network, its report, the routes of each pair and interval as NAME.assigned.ways.csv, and pictures of the gap and of the routes.
 With several shares of informed drivers a table is printed, and written where -o names a CSV file.
 
 The traffic is the program's: one run a round. tools/docs/routes.md has the method, its limits and its sources."""
@@ -66,11 +66,11 @@ The traffic is the program's: one run a round. tools/docs/routes.md has the meth
 @click.option("--dask", "address", metavar="ADDRESS", help="Of several shares: the scheduler of a Dask cluster.")
 def command(source: str, earlier: str | None, informed: str | None, after: str | None, gap: float, iterations: int,
             output: str | None, workers: int | None, jobs: int | None, address: str | None) -> None:
-    """Let the trips of a study choose their ways, until hardly anybody would gain by another one."""
+    """Let the drivers of a study's trips choose their routes, until hardly any would gain by another one."""
     values = read_values(source)
     study = scenario_of(values, Path(source))
     if after is not None and earlier is None:
-        raise click.UsageError("--after: without --from nobody has a way yet")
+        raise click.UsageError("--after: goes with --from; without it no driver has a route yet")
     rows = ways_of_study(earlier) if earlier else None
     tasks = [AssignTask(values, source, str(program_path()), rows, part, step_of(after, study), gap, iterations)
              for part in _parts(informed)]

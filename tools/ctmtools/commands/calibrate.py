@@ -62,7 +62,7 @@ def command(study: str, observed: tuple[str, ...], places: tuple[str, ...], vari
             starts: int, jobs: int, address: str | None, output: str | None, **terms: Unpack[StationOptions]) -> None:
     """Find the values of a study's keys by which it comes nearest to what detectors saw.
 
-    Tells the values and how far each can move and do as well, and for each detector GEH and root mean square errors, and plots
+    Prints the values, the range of each that fits as well, for each detector GEH and root mean square errors, and plots
     modelled over observed flows.
     """
     from ..plots.calibration import against

@@ -36,8 +36,8 @@ def command() -> None:
 Example:
   ctm-tools import sumo town.net.xml --routes town.rou.xml --until "1 h" -o town.toml
 
-Edges with the lanes for cars, connections, who gives way, signals; of the route files vehicles, trips and flows, which give
-demand and turning shares by --interval. Streets on which nobody drives are left out.""")
+Read are the edges with their lanes for cars, connections, priorities and signals; of the route files vehicles, trips and flows,
+which give demand and turning shares by --interval. Streets without vehicles are left out.""")
 @click.argument("network", metavar="NET.net.xml", type=click.Path())
 @click.option("--routes", metavar="FILE.rou.xml", type=click.Path(), multiple=True,
               help="A file of vehicles, trips or flows; may be given again.")

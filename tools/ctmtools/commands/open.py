@@ -4,7 +4,9 @@ from __future__ import annotations
 
 import asyncio
 import os
+import signal
 import webbrowser
+from contextlib import suppress
 from pathlib import Path
 
 import click
@@ -13,6 +15,7 @@ from ..files.reading import kind_of, read_bytes
 from ..files.writing import write
 from ..live.session import Session, read_text
 from ..problem import Interrupted, Problem
+from ..program.interrupt import ENDS, INTERRUPTS
 from ..program.processes import aside
 from .options import ALLOW_FILES
 from .telling import note, tell
@@ -60,6 +63,7 @@ async def _serve(session: Session, against: str, port: int, browser: bool) -> No
 
     server = Server(session, against)
     address = await server.begin(port)
+    came = _ended_by_signals(server.ended)
     tell(f"{session.path} is open at {address}", "Ctrl-C ends it.")
     if browser:
         aside(lambda: _open_browser(address))
@@ -69,7 +73,23 @@ async def _serve(session: Session, against: str, port: int, browser: bool) -> No
         if not session.is_saved and session.can_undo:  # first, since an interrupt leaves little time
             _keep_unsaved(session.path, session.text)
         await server.end()
+    if came:
+        INTERRUPTS.pass_on(came[0], None)
     tell("The last page was closed a minute ago.")
+
+
+def _ended_by_signals(ended: asyncio.Event) -> list[int]:
+    """Has what ends this process from outside end the server first; gives the signals that came."""
+    came: list[int] = []
+
+    def end(number: int) -> None:
+        came.append(number)
+        ended.set()
+
+    for number in ENDS:
+        if signal.getsignal(number) is not signal.SIG_IGN:  # as of nohup
+            asyncio.get_running_loop().add_signal_handler(number, end, number)
+    return came
 
 
 def _open_browser(address: str) -> None:
@@ -96,4 +116,5 @@ def _keep_unsaved(path: Path, text: str) -> None:
         write(kept, text, lasting=True)
     except Problem as problem:
         raise Interrupted(f"changes weren't saved, and can't be kept: {problem}") from None
-    note(f"changes that weren't saved are kept in {kept}")
+    with suppress(OSError):  # the terminal may be closed
+        note(f"changes that weren't saved are kept in {kept}")

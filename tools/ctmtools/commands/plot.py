@@ -86,7 +86,7 @@ Examples:
 @click.option("--background", metavar="FLOW", type=Finite(0), help="Take off this flow, in vehicles/h.")
 @click.option("--shifted", is_flag=True, help="Move each curve on by the free-flow time to the last cell.")
 def n_curves(**named: Any) -> None:
-    """Cumulative curves: all vehicles that have gone out of chosen cells, over time."""
+    """Cumulative curves: all vehicles that have left chosen cells, over time."""
     draw("n-curves", **named)
 
 

@@ -40,7 +40,7 @@ known, in km, and Debian's python3-pyproj."""
 @click.option("--draws", metavar="FOLDER", type=click.Path(),
               help="What draw wrote of a network of the reports; by default REPORT.draw beside one, where that is of its network.")
 @click.option("--title", metavar="TEXT", help="The page's title, in place of the studies'.")
-@click.option("--author", metavar="TEXT", help="Who made the page, below its title.")
+@click.option("--author", metavar="TEXT", help="The author's name, below the title.")
 @click.option("--logo", metavar="FILE.png|svg|jpg", type=click.Path(), help="A picture at the head of the page.")
 @on_reports
 def command(reports: tuple[str, ...], output: str | None, map_behind: bool, crs: str | None, tiles: str | None, draws: str | None,

@@ -36,7 +36,7 @@ is in. Each step is recorded where the program's limit of 4,000,000 recorded val
 CTM_PROGRAM names another program than that of the repository or the package.
 
 With --seeds vehicles come at random in runs beside that of the report: whole ones, as many in each step as a Poisson draw has, and
-those who give way have gaps at random. Their delay and longest queue stand below the page by approach, as mean and interval.
+streams that give way have gaps at random. Their delay and longest queue stand below the page by approach, as mean and interval.
 
 With --checkpoint the run goes in stretches, and the moment that was reached stands in FILE.saved beside the report. The same
 call goes on from there where the run was ended, by Ctrl-C or otherwise, and takes the file away once the report is written.

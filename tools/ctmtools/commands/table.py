@@ -38,7 +38,7 @@ to_km, lanes. Flow, density and speed are those from the time to the next one, a
 aren't known, flow is in vehicles a step, density in vehicles a cell, speed in cells a step, and time is the step.
 With --by road a row for each road and gate, and each --interval: time, step, road, left (vehicles), flow, density
 (vehicles/km in a lane), level (of service by density, as the Highway Capacity Manual has it for motorways), speed, delay
-(vehicle-hours), delay_each (s), queue (km); with --value-of-time cost too. With --by ramp the same of each way from a gate to
+(vehicle-hours), delay_each (s), queue (km); with --value-of-time cost too. With --by ramp the same of each route from a gate to
 the merge that it leads to, with what waits in the gate.
 With --by approach a row for each approach of a junction and each stop line of a study, with --by movement for each movement
 of it, and each --interval: demand (vehicles/h that come), left (vehicles), capacity (vehicles/h), ratio (of demand and

@@ -98,7 +98,7 @@ def told(error: Exception) -> tuple[str, int]:
         return "interrupted", STATUS
     if isinstance(error, click.ClickException):
         context = getattr(error, "ctx", None)
-        return f"{error.format_message()} ({context.command_path if context else PROGRAM} --help tells more)", BAD_INPUT
+        return f"{error.format_message()} ({context.command_path if context else PROGRAM} --help shows more)", BAD_INPUT
     if isinstance(error, Problem):
         return str(error), BAD_INPUT
     package = PACKAGES.get((error.name or "").split(".")[0]) if isinstance(error, ModuleNotFoundError) else None

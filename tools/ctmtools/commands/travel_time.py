@@ -26,9 +26,9 @@ Examples:
   ctm-tools travel-time bottleneck.report --road m --every "15 min"
   ctm-tools travel-time bottleneck.report --from m.0 --to m.5 --every "15 min" --plot travel.png
 
-A place is ROAD.KM, the nearest boundary of cells; or a gate, with the wait in it, or an exit. The way between two
-places is that of the fewest cells. In a row are those who set out in its time: how many, and the mean, the least and
-the most time that they need. Columns of the CSV: time, entered (vehicles), mean, least, most, free, delay (min), speed (km/h),
+A place is ROAD.KM, the nearest boundary of cells; or a gate, with the wait in it, or an exit. The route between
+two places is that of the fewest cells. A row is of the vehicles that depart in its time: how many, and the mean, the least
+and the most time that they need. Columns of the CSV: time, entered (vehicles), mean, least, most, free, delay (min), speed (km/h),
 step; where the units aren't known, places are cells and times are steps."""
 
 
@@ -45,9 +45,9 @@ step; where the units aren't known, places are cells and times are steps."""
 @on_reports
 def command(report: str, road: str | None, begin: str | None, end: str | None, every: str | None, output: str | None,
             picture: str | None, units: str | None, network: str | None) -> None:
-    """Tell the travel times along a road or a route, by the time of setting out.
+    """Print the travel times along a road or a route, by time of departure.
 
-    They come from the curves of arrival and departure, since who comes first leaves first. Flows are taken as even
+    They come from the curves of arrival and departure, since the vehicle that comes first leaves first. Flows are taken as even
     between records, also within a step.
     """
     read = read_report(report, units, network)
@@ -85,8 +85,8 @@ def told_times(report: Report, cells: list[str], frame: pandas.DataFrame) -> lis
     unit = frame.attrs["units"]["mean"]
     head = f"{report.title}: from {where(report, cells[0], True)} to {where(report, cells[-1])}"
     if frame.empty:
-        return [head, "", "Nobody sets out there."]
-    rows: list[tuple[str, ...]] = [("set out from", "vehicles", f"mean, {unit}", "least", "most", "km/h")]
+        return [head, "", "No vehicle departs there."]
+    rows: list[tuple[str, ...]] = [("departure from", "vehicles", f"mean, {unit}", "least", "most", "km/h")]
     for row in frame.itertuples():
         clock = report.units.clock(row.step) if report.units.known else f"{row.step:g}"
         rows.append((clock, number_text(row.entered), *map(figure, (row.mean, row.least, row.most, row.speed))))

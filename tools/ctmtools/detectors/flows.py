@@ -89,7 +89,7 @@ def _once(files: Files, frame: pandas.DataFrame) -> pandas.DataFrame:
         first = frame[(frame.station == second.station) & (frame.moment == second.moment)].iloc[0]
         of = f" of station {second.station}" if second.station else ""
         raise Problem(f"{files.place(second)} has the same time as {files.where(first)}{of}; are there two stations of one name, or "
-                      "rows twice, which leave_out = \"repeated\" leaves out, or were the clocks put back, which zone tells?")
+                      "rows twice, which leave_out = \"repeated\" leaves out, or were the clocks put back, for which say zone?")
     return frame
 
 

@@ -129,7 +129,7 @@ def _starts(report: Report, every: float) -> tuple[list[int], int]:
     step = report.units.step
     wanted = every if step is None else every / step
     if wanted < report.times[1] - report.times[0]:
-        raise Problem("--every: is less than the way from record to record")
+        raise Problem("--every: is less than the time from record to record")
     width = max(1, round(wanted))
     starts = numpy.arange(0, report.steps, width)
     rows = numpy.append(numpy.searchsorted(report.times[:-1], starts), len(report.times) - 1)

@@ -14,8 +14,8 @@ MOST_FIELDS = 10_000  # a region's table with a column a station has some thousa
 SUFFIX = ".units.json"
 HEADER = re.compile(rb'(?:\xef\xbb\xbf)?(?:[\r\n]|#[^\n]*\n)*"?ctm"?[,;\t ]')
 STUDY_KEY = re.compile(rb"^[ \t]*(?:\[+(?:lane|roads|gates|exits)\b|step\s*=|(?:roads|gates|exits)\.)", re.MULTILINE)
-ADVICE = {"a study": "`ctm-tools build` makes its network and tells what is wrong with it, `ctm-tools run` runs it",
-          "a network": "`ctm-tools run` runs it, `ctm-tools lint` tells what is wrong with it",
+ADVICE = {"a study": "`ctm-tools build` makes its network and prints what is wrong with it, `ctm-tools run` runs it",
+          "a network": "`ctm-tools run` runs it, `ctm-tools lint` prints what is wrong with it",
           "a report": "`ctm-tools table`, `plot` and `compare` read it",
           "a saved run": "`ctm resume` and `ctm-tools branch` go on from it",
           "a file of units": "it is read with the network or the report that it stands beside"}

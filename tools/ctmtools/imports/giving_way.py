@@ -16,10 +16,10 @@ MOST_NAMED = 12  # movements that a note names; the study has all of them at the
 FAST = 80  # km/h; the gaps of a study are those of streets, and no ramp's onto a motorway, which drivers of this speed meet
 RING_OF_TWO = {"critical_gap": Fraction("4.328"), "follow_up": Fraction("2.535")}  # 1,420·exp(-0.00085·v), HCM 2016, chapter 22
 TWICE = 2  # of a left turn out of the street with priority counts this, HCM 2010, chapter 19
-ALL_STOPS = "at an all-way stop nobody has priority"
+ALL_STOPS = "at an all-way stop no stream has priority"
 AT_SPEED = f"streams that meet at more than {FAST} km/h don't take gaps as on streets"
 UNKEPT = "in the green that is kept of them they don't give way"
-IN_TURN = "they merge in turn with those whom they meet"
+IN_TURN = "they merge in turn with the streams that they meet"
 
 
 @dataclass(frozen=True)

@@ -124,7 +124,7 @@ class Reader:
         self._yields()
         self._check_shares(rows)
         if not rows:
-            self.found.notes.append("there is no movement.csv: at each node all ways but that back are taken")
+            self.found.notes.append("there is no movement.csv: at each node all movements but turning back are taken")
             leaving = grouped(self.found.streets.values(), lambda street: street.start)
             for one in self.found.streets.values():
                 for two in leaving[one.end]:
@@ -152,7 +152,7 @@ class Reader:
             way.yields |= others if way.control == ALL_STOP else others - self.yielding
         without = sorted(pair for pair in self.yielding if not self.found.ways[pair].yields and self._others(pair))
         if without:
-            self.found.notes.append(f"{len(without)} movements give way by their ctrl_type, and so do all whom they meet, so none "
+            self.found.notes.append(f"{len(without)} movements give way by their ctrl_type, and so do all that they meet, so none "
                                     f"has priority: {first_few([' to '.join(pair) for pair in without])}")
 
     def uncontrolled(self) -> None:
@@ -168,7 +168,7 @@ class Reader:
                                     f"all times and the delay is too low: {first_few(untimed)}")
         if self.unsaid:
             self.found.notes.append(f"{len(self.unsaid)} nodes have a ctrl_type, as {first_few(dict.fromkeys(self.unsaid.values()))}, and "
-                                    f"no movement that says who gives way: {first_few(self.unsaid)}")
+                                    f"no movement that says which gives way: {first_few(self.unsaid)}")
 
     def _check_shares(self, rows: list[Row]) -> None:
         """Refuses a movement without a share whose link has others with one, since by lanes it would be another measure."""

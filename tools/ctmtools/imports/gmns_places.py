@@ -54,13 +54,13 @@ class Places:
                 self.notes.append("config.csv has no crs; the coordinates are taken as longitude and latitude, by which the "
                                   "lengths fit")
         elif odd and kilometre is None:
-            raise Problem(f"{self.config.path}: has no long_length, and in km the links are {odd:,.0f} times as long as the ways "
+            raise Problem(f"{self.config.path}: has no long_length, and in km the links are {odd:,.0f} times as long as the distances "
                           "between their nodes; say their unit, as long_length = m")
         else:
             self.usable = False
             told = next(iter(ratios.values()))
             self.notes.append(f"the coordinates of the nodes aren't kept: by them the links are {told:.3g} times as long as the "
-                              "ways between their nodes")
+                              "distances between their nodes")
 
     def _ratio(self, crs: str | None, rows: list[tuple[list[Point], float]]) -> float | None:
         """How long links are, at the middle of all, in ways from node to node by a system, or in metres; None of none."""

@@ -11,7 +11,7 @@ from .streets import Connection, Movement, Program, Span, Streets, grouped
 from .traffic import Traffic
 
 SEVERAL = "they control several junctions"
-PERMITTED = "some are green there for who gives way"
+PERMITTED = "some are green there while they give way"
 APART = "movements of one approach have greens of their own"
 TWICE = "movements are green several times in their cycle, or never"
 

@@ -20,7 +20,7 @@ if TYPE_CHECKING:
 
 CHOICE = 300  # s, the interval in which drivers of a map's study choose their ways
 SHARES = ("turning shares aren't on a map: at each junction they are by the lanes of its movements; with --trips drivers choose "
-          "their ways")
+          "their routes")
 WITHOUT_DISTRICTS = "--matrix: matrices are taken with --trips and --taz, the file of their districts"
 HEADWAYS = (0.5, 5.0)  # s, the least and the most
 Names = str | Path | Sequence[str | Path]

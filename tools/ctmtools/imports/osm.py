@@ -40,7 +40,7 @@ SAYS = {
     GUESSED_SPEED: "ways have no speed on the map, or none that says both directions, and have a guess",
     GUESSED_LANES: "ways have no number of lanes on the map, or none that says both directions, and have a guess",
     "joined": "junctions are made of several nodes, as those of carriageways side by side",
-    "roundabout": "roundabouts are rings of streets, on which who drives round has priority",
+    "roundabout": "roundabouts are rings of streets, on which circulating vehicles have priority",
     "signal": "signals have a program of netconvert's, since a map has none",
     "signal left out": "signals on the map are left out, as at crossings for people on foot",
     "short": "streets are shorter than half a cell, and become one where they are no part of a longer road",

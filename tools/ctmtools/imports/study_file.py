@@ -25,7 +25,7 @@ from .speed_limits import limits_on
 from .streets import Connection, Movement, Program, Stage, Street, Streets, grouped
 from .traffic import EXIT, GATE, Traffic
 
-TOO_WIDE = f"with those to whom they do they would be a junction of more than {MOST_ARMS} streets"
+TOO_WIDE = f"with the streams to which they give way they would be a junction of more than {MOST_ARMS} streets"
 LOCAL_DECIMALS = 5  # of a km
 CHANGED = 0.01  # shares of a span that differ by less are those of the whole time
 
@@ -374,10 +374,10 @@ class Writer:
     def notes(self) -> list[str]:
         """What isn't kept: that of the network, and what is in the making of the study."""
         notes = [*self.found.notes, "vehicles have no routes of their own: at each junction they turn by the shares of "
-                 "those who drive there in each span"]
+                 "the vehicles there in each span"]
         left = len(self.found.streets) - len(self.traffic.streets)
         if left:
-            notes.append(f"{left} of {len(self.found.streets)} streets, on which nobody drives, are left out")
+            notes.append(f"{left} of {len(self.found.streets)} streets, on which no vehicle drives, are left out")
         split = [way for way in self.traffic.ways() if way in self.found.ways and len(self.found.ways[way].green) > 1]
         if split:
             notes.append(f"{len(split)} movements are green several times in a cycle, as {self._moving(split[0])}; "

@@ -146,7 +146,7 @@ class Routes:
                 return f"over {edge}, which {kind} may not use"
         for pair in zip(route, route[1:]):
             if pair not in self.found.ways or not self._may(self.found.ways[pair].classes, kind):
-                return f"from {pair[0]} to {pair[1]}, where no way is"
+                return f"from {pair[0]} to {pair[1]}, which no connection joins"
         return None
 
     @staticmethod
@@ -165,7 +165,7 @@ class Routes:
         for one, two in zip(stops, stops[1:]):
             way = self._way(one, two, kind)
             if way is None:
-                return [], f"from {one} to {two}, where no way is"
+                return [], f"from {one} to {two}, which no connection joins"
             whole += way[1:]
         return whole, ""
 

@@ -116,7 +116,7 @@ class Reader:
         kept = 0.0
         for route, part, cause in self._ways(one, kind, given):
             if cause:
-                self._lose(one, "without a way over the network", vehicles * part, cause)
+                self._lose(one, "without a route over the network", vehicles * part, cause)
             else:
                 kept += vehicles * part
                 self.found.trips.append(Trip(route, stretch.begin, stretch.end, vehicles * part))

@@ -159,7 +159,7 @@ def put_trips(found: Streets, zones: Zones, matrix: tuple[float, float, Sequence
                         for (one, two), weight in pairs.items() if total and weight and coming]
     _say(found, matrix, until, coming, lost)
     if lost:
-        found.notes.append(f"{Path(path).name}: {lost:,.6g} vehicles without a way over the network are left out")
+        found.notes.append(f"{Path(path).name}: {lost:,.6g} vehicles without a route over the network are left out")
 
 
 def _say(found: Streets, matrix: tuple[float, float, Sequence[Row]], until: float, coming: float, lost: float) -> None:

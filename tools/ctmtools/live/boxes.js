@@ -21,7 +21,8 @@ export class Boxes {
       found.get(table)[name] = value;
     }
     this.version = version;
-    if (!this.held) this.all = [...found.values()];
+    this.all = [...found.values()];
+    if (this.held && this.held.key && !found.has(this.held.key)) this.held = null;
     if (this.view.page) this.draw();
   }
   // The box in km and in seconds of the picture's clock; what it doesn't say is the road's or the study's.
@@ -58,7 +59,8 @@ export class Boxes {
     svg.node().addEventListener("pointerdown", event => { if (this.kind && event.target === svg.node()) this.drawNew(event, svg.node()); });
     for (const type of ["click", "pointermove"]) svg.node().addEventListener(type, event => { if (this.held || type === "click") event.stopPropagation(); });
     svg.node().addEventListener("pointermove", event => this.move(event));
-    svg.node().addEventListener("pointerup", () => this.release());
+    for (const type of ["pointerup", "pointercancel"]) svg.node().addEventListener(type, () => this.release());
+    if (this.held) svg.node().setPointerCapture(this.held.pointer);  // the page was drawn anew as a whole while it is dragged
     return svg.node();
   }
   enter(added) {
@@ -78,14 +80,15 @@ export class Boxes {
   hold(event, element, box) {
     event.preventDefault();
     element.focus();
-    this.held = { key: box.key, side: event.target.dataset.side || "all", first: this.at(event), before: box, now: box, group: `box ${this.count += 1} ${box.key}` };
+    this.held = { key: box.key, side: event.target.dataset.side || "all", first: this.at(event), before: box, now: box, pointer: event.pointerId,
+      group: `box ${this.count += 1} ${box.key}` };
     document.getElementById("live-boxes").setPointerCapture(event.pointerId);
   }
   drawNew(event, svg) {
     const { time, km, kms } = this.at(event), { begins } = this.view.page.times;
     const box = { kind: this.kind, road: this.view.page.state.road, [KINDS[this.kind].value]: KINDS[this.kind].first,
       from: nearest(km, kms), to: nearest(km, kms), start: snapped(time, begins), end: snapped(time, begins) };
-    this.held = { key: undefined, side: "new", first: { time, km, x: event.clientX, y: event.clientY }, before: box, now: box };
+    this.held = { key: undefined, side: "new", first: { time, km, x: event.clientX, y: event.clientY }, before: box, now: box, pointer: event.pointerId };
     svg.setPointerCapture(event.pointerId);
   }
   move(event) {
@@ -102,8 +105,15 @@ export class Boxes {
     const { held } = this;
     if (!held) return;
     this.held = null;
-    if (!held.key) this.add(held.now);
-    else this.all = this.all.map(box => box.key === held.key ? { ...box, ...textsOf(held.now) } : box);
+    if (held.key) this.show(held.key, textsOf(held.now));
+    else {
+      this.add(held.now);
+      this.draw();
+    }
+  }
+  // Shows what is said to the server before it answers.
+  show(key, values) {
+    this.all = this.all.map(box => box.key === key ? { ...box, ...values } : box);
     this.draw();
   }
   add(box) {
@@ -125,13 +135,15 @@ export class Boxes {
       const wider = time ? widened(box, "end", box.end + time, begins, ends) : widened(box, "to", step(box.to), begins, ends);
       const now = event.shiftKey ? wider : movedBy(box, time, step(box.from) - box.from, kms, begins, ends);
       this.socket.send({ do: "change", patches: patchesOf(box.key, now, box), group: `keys ${box.key}` });
+      this.show(box.key, textsOf(now));
     } else return;
     event.preventDefault();
     event.stopPropagation();
   }
   changeValue(box, sign) {
-    const { value } = KINDS[box.kind], by = value === "speed" ? 10 : 1;
-    this.socket.send({ do: "change", patches: [[`${box.key}.${value}`, Math.max(by, parseFloat(box[value]) + sign * by)]], group: `keys ${box.key} ${value}` });
+    const { value } = KINDS[box.kind], by = value === "speed" ? 10 : 1, now = Math.max(by, parseFloat(box[value]) + sign * by);
+    this.socket.send({ do: "change", patches: [[`${box.key}.${value}`, now]], group: `keys ${box.key} ${value}` });
+    this.show(box.key, { [value]: now });
   }
   toolbar(space) {
     if (document.getElementById("live-draws")) return;

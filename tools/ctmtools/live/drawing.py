@@ -44,15 +44,17 @@ class Drawing:
         while True:
             await self.asked.wait()
             self.asked.clear()
-            with suppress(Problem):  # which was told
+            try:
                 await self._draw(self.session.text, self.session.version)
+            except Problem:  # which was told; the plans beside it are shown even so
+                await self._compare_plans()
 
     async def _draw(self, text: str, version: int) -> None:
         result = await self._run(text, version)
         base = await self._base()
         shown = [base, result] if base else [result]
         layout = (self.against if base else "", *map(layout_of, shown))
-        await self._tell("line", {"kind": "line", "version": version, **difference(self.against, base, result, False)})
+        await self.tell("line", {"kind": "line", "version": version, **difference(self.against, base, result, False)})
         if layout == self._layout:
             data = await in_a_thread(picture_data, result, self._bounds)
             await self.send(packet({"kind": "picture", "version": version, **data}))
@@ -62,30 +64,33 @@ class Drawing:
         names = [self.against, HERE] if base else [HERE]
         data = await self._told(page_data, shown, names, version=version)
         self._layout, self._bounds = layout, frame_bounds(shown[-len(data["reports"]):])
-        await self._tell("page", packet({"kind": "page", "version": version, **data}))
+        await self.tell("page", packet({"kind": "page", "version": version, **data}))
         await self._compare(base, result, version)
 
     async def _compare(self, base: Result | None, result: Result, version: int) -> None:
         """Tells the difference of both, and the table of all plans."""
-        await self._tell("line", {"kind": "line", "version": version,
+        await self.tell("line", {"kind": "line", "version": version,
                                   **await self._told(difference, self.against, base, result, True, version=version)})
-        rows = []
+        await self._compare_plans()
+
+    async def _compare_plans(self) -> None:
+        rows: list[dict[str, Any]] = []
         for name, text in [*self.session.plans.items(), (HERE, self.session.text)]:
             if self.asked.is_set():
                 return
-            rows.append(await in_a_thread(self._row, name, text))
-        await self._tell("plans", {"kind": "plans", "heads": [f"{name}, {unit}" for name, _, unit in MEASURES], "rows": rows})
+            try:
+                rows.append(await in_a_thread(self._row, name, text))
+            except Problem as problem:
+                rows.append({"name": name, "fault": fault_of(problem, self.session.path)["line"]})
+        await self.tell("plans", {"kind": "plans", "heads": [f"{name}, {unit}" for name, _, unit in MEASURES], "rows": rows})
 
     def _row(self, name: str, text: str) -> dict[str, Any]:
-        try:
-            measures = self.results.of(text).measures
-        except Problem as problem:
-            return {"name": name, "fault": fault_of(problem, self.session.path)["line"]}
+        measures = self.results.of(text).measures
         return {"name": name, "values": [number(measures[key]) for _, key, _ in MEASURES]}
 
     async def _run(self, text: str, version: int) -> Result:
         result: Result = await self._told(self.results.of, text, version=version)
-        await self._tell("fault", {"kind": "fault", "version": version, "fault": None, "told": result.told})
+        await self.tell("fault", {"kind": "fault", "version": version, "fault": None, "told": result.told})
         return result
 
     async def _base(self) -> Result | None:
@@ -104,10 +109,11 @@ class Drawing:
             return await in_a_thread(work, *words)
         except Problem as problem:
             fault = fault_of(problem, self.session.path)
-            await self._tell("fault", {"kind": "fault", "version": version, "fault": fault, "told": []})
+            await self.tell("fault", {"kind": "fault", "version": version, "fault": fault, "told": []})
             raise
 
-    async def _tell(self, what: str, message: Message) -> None:
+    async def tell(self, what: str, message: Message) -> None:
+        """Tells all pages something, of which those that come later get the last."""
         self.last[what] = message
         await self.send(message)
 

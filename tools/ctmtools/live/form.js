@@ -1,42 +1,53 @@
 // The study as a form: a group for each table, a field with its unit for each key; each is typed by keyboard alone.
-import { rowsField } from "./rows.js";
+import { put, RowsField } from "./rows.js";
 
 const LISTS = ["closures", "openings", "speed_limits", "signals", "links", "merges", "diverges", "on_ramps", "off_ramps", "meters", "junctions"];
 const NAMED = ["roads", "gates", "exits"];
+const hasRows = field => field.rows !== undefined && field.rows.every(row => row.length === 3);
 
 export class Form {
   constructor(box, socket) {
-    Object.assign(this, { box, socket, keys: "", fields: [], known: {} });
+    Object.assign(this, { box, socket, keys: "", fields: [], known: {}, rows: new Map() });
   }
   // Takes the fields of a study; one that is typed into keeps what stands there.
   take({ fields, known }) {
     Object.assign(this, { fields, known });
-    const keys = JSON.stringify(fields.map(field => [field.key, field.rows ? field.rows.length : -1]));
+    const keys = JSON.stringify(fields.map(field => [field.key, hasRows(field)]));
     if (keys !== this.keys) this.build(keys);
     for (const field of fields) this.fill(field);
   }
+  // Groups and fields that stay keep their elements, with what is typed, focused or dragged in them.
   build(keys) {
-    const focused = document.activeElement && document.activeElement.dataset.key, top = this.box.parentElement.scrollTop;
     this.keys = keys;
-    this.box.replaceChildren(...this.groups().map(([table, fields]) => this.group(table, fields)));
-    this.box.parentElement.scrollTop = top;
-    if (focused) this.focus(focused);
+    const groups = d3.select(this.box).selectAll(":scope > fieldset").data(this.groups(), ({ table }) => table)
+      .join(enter => enter.append(({ table }) => this.group(table)));
+    groups.each(({ table, fields }, i, boxes) => this.fillGroup(boxes[i], table, fields));
   }
   groups() {
     const found = new Map();
     for (const field of this.fields) found.set(field.table, [...(found.get(field.table) || []), field]);
-    return [...found];
+    return [...found].map(([table, fields]) => ({ table, fields }));
   }
-  group(table, fields) {
-    const box = document.createElement("fieldset"), [kind, part] = table.split(".");
+  group(table) {
+    const box = document.createElement("fieldset");
     box.dataset.table = table;
-    box.append(Object.assign(document.createElement("legend"), { textContent: table || "study" }));
-    for (const field of fields) box.append(field.rows && field.rows.every(row => row.length === 3) ? rowsField(field, this.socket) : this.field(field));
-    const foot = document.createElement("p"), more = this.more(table, kind, fields);
-    if (more) foot.append(more);
-    if (part && (LISTS.includes(kind) || NAMED.includes(kind)) && table.split(".").length === 2) foot.append(this.remover(table));
-    box.append(foot);
+    box.append(Object.assign(document.createElement("legend"), { textContent: table || "study" }),
+      Object.assign(document.createElement("div"), { className: "fields" }), document.createElement("p"));
     return box;
+  }
+  fillGroup(box, table, fields) {
+    const [kind, part] = table.split("."), foot = box.querySelector("p");
+    d3.select(box).select(".fields").selectAll(":scope > *").data(fields, field => `${field.key} ${hasRows(field)}`)
+      .join(enter => enter.append(field => this.begun(field)), update => update,
+        left => left.filter((_, i, rows) => !rows[i].contains(document.activeElement)).remove());
+    const more = this.more(table, kind, fields), wanted = more ? [more] : [];
+    if (part && (LISTS.includes(kind) || NAMED.includes(kind)) && table.split(".").length === 2) wanted.push(this.remover(table));
+    foot.replaceChildren(...wanted);
+  }
+  begun(field) {
+    if (!hasRows(field)) return this.field(field);
+    this.rows.set(field.key, new RowsField(field, this.socket));
+    return this.rows.get(field.key).element;
   }
   field({ key, name, unit }) {
     const label = Object.assign(document.createElement("label"), { className: "field" });
@@ -49,25 +60,15 @@ export class Form {
       Object.assign(document.createElement("span"), { className: "unit", textContent: unit }));
     return label;
   }
-  fill({ key, value, rows }) {
-    if (rows) {
-      rows.forEach((row, i) => row.forEach((entry, j) => this.put(`${key}.${i}.${j}`, entry)));
-      const svg = this.box.querySelector(`svg[data-key="${CSS.escape(key)}"]`);
-      if (svg) svg.dispatchEvent(new CustomEvent("rows", { detail: rows }));
-    }
-    this.put(key, value);
-  }
-  put(key, value) {
-    const input = this.input(key);
+  fill(field) {
+    if (hasRows(field)) this.rows.get(field.key).take(field.rows);
+    const input = this.input(field.key);
     if (!input) return;
-    if (document.activeElement !== input || input.dataset.shown === input.value) input.value = value;
-    input.dataset.shown = value;
+    put(input, field.value);
+    input.closest("label").querySelector(".unit").textContent = field.unit;
   }
   input(key) { return this.box.querySelector(`input[data-key="${CSS.escape(key)}"]`); }
-  focus(key) {
-    const input = this.input(key);
-    if (input) input.focus();
-  }
+
   // Up and down change a number by one of its last digit.
   step(event, input, key) {
     if (!["ArrowUp", "ArrowDown"].includes(event.key) || !/^-?\d+(\.\d+)?$/.test(input.value)) return;
@@ -89,10 +90,9 @@ export class Form {
   }
   begin(list, table) {
     const key = table ? `${table}.${list.value}` : list.value, name = list.value;
-    const row = this.field({ key, name, unit: "" });
-    list.closest("fieldset").insertBefore(row, list.closest("p"));
+    const row = d3.select(list.closest("fieldset")).select(".fields").append(() => this.field({ key, name, unit: "" })).datum({ key }).node();
     list.value = "";
-    this.keys = "";  // the next study builds it anew
+    this.keys = "";  // the next study takes it in, or away
     row.querySelector("input").focus();
   }
   remover(table) {

@@ -7,7 +7,7 @@ function takeFrames(report, fresh) {
   for (const name of ["density", "flow"])
     report[name] = { most: fresh[name].most, parts: new Uint16Array(fresh[name].text.buffer) };
   report.bits = fresh.queued;
-  report.limits = fresh.limits;
+  for (const name of ["limits", "closures", "signals", "queues"]) if (fresh[name]) report[name] = fresh[name];
 }
 // Another picture of the last report, which is laid out alike.
 function takePicture(fresh) {

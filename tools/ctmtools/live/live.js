@@ -5,6 +5,7 @@ import { Form } from "./form.js";
 import { ReportView } from "./report_view.js";
 import { Signals } from "./signals.js";
 import { Socket } from "./socket.js";
+import { Works } from "./works.js";
 
 const part = name => document.getElementById(`live-${name}`);
 const DIGITS = 2;
@@ -16,6 +17,7 @@ const socket = new Socket(message => heed[message.kind](message), lost => {
 });
 const view = new ReportView(part("report"), part("template"));
 const form = new Form(part("form"), socket), boxes = new Boxes(view, socket), signals = new Signals(part("signals"), socket);
+const works = new Works(part("works").querySelector("div"), socket);
 
 const heed = {
   study(message) {
@@ -44,6 +46,7 @@ const heed = {
     if (study) heed.study(study);
     form.mark({ key: message.key || message.of, line: message.line });
   },
+  work(message) { works.take(message); },
   written(message) { part("answer").textContent = message.line; },
 };
 const DISK = { same: "", changed: "was changed on the disk meanwhile", gone: "is no longer on the disk" };

@@ -11,6 +11,7 @@ from .drawing import Drawing, in_a_thread
 from .fields import KNOWN, fields_of, values_in
 from .results import fault_of, write_page, write_report
 from .session import Session
+from .works import Works
 
 Order = dict[str, Any]
 
@@ -20,6 +21,7 @@ class Orders:
 
     def __init__(self, session: Session, drawing: Drawing) -> None:
         self.session, self.drawing, self.redraw = session, drawing, False
+        self.works = Works(session, drawing.tell, drawing.ask)
         self._fields: list[dict[str, Any]] = []
         self._at_once: dict[str, Callable[[Order], object]] = {
             "change": lambda order: session.change([(str(key), value) for key, value in order["patches"]], order.get("group")),
@@ -28,7 +30,8 @@ class Orders:
             "undo": lambda _: session.undo(), "redo": lambda _: session.redo(),
             "save": lambda order: session.save(bool(order.get("over"))), "anew": lambda _: session.read_anew(),
             "keep": lambda order: self._keep(str(order["name"])), "forget": lambda order: self._forget(str(order["name"])),
-            "take": lambda order: session.take_plan(str(order["name"])), "against": lambda order: self._stand_against(str(order["name"]))}
+            "take": lambda order: session.take_plan(str(order["name"])), "against": lambda order: self._stand_against(str(order["name"])),
+            "begin": lambda order: self.works.begin(str(order["name"])), "stop": lambda _: self.works.stop()}
 
     async def do(self, text: str) -> Order | None:
         """Does what a page says, and gives what it is to be told of it."""

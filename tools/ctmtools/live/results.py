@@ -19,7 +19,7 @@ from ..network_file.checksums import marked
 from ..pages.content import data_of
 from ..pages.frames import Frames, bounds_of
 from ..pages.html_page import page_of
-from ..pages.networks import is_measured, speed_limits
+from ..pages.networks import closures_of, is_measured, signals_of, speed_limits
 from ..problem import Problem
 from ..report.reading import Report
 from ..runs.outputs import guard_report
@@ -120,7 +120,8 @@ def page_data(results: Sequence[Result], names: Sequence[str]) -> dict[str, Any]
 def picture_data(result: Result, bounds: Sequence[int]) -> dict[str, Any]:
     """What changes of a picture whose frames have these bounds and whose network is the same."""
     frames = Frames(result.report, bounds, is_measured(result.report))
-    return {"report": {"limits": speed_limits(result.report), **frames.data()}}
+    return {"report": {"limits": speed_limits(result.report), "closures": closures_of(result.report),
+                       "signals": signals_of(result.report), **frames.data()}}
 
 
 def layout_of(result: Result) -> str:

@@ -1,7 +1,8 @@
 """The server of a study on this machine: for pages of its own alone, which have the secret of its address.
 
 It listens on the loopback address. Each request has to name it as its host, and where it says from which origin it comes, that is
-this server. It has no files but its own. A minute after the last page was closed it ends.
+this server. It has no files but its own: its page, style and modules, those of the page of `report`, and d3. A minute after the
+last page was closed it ends.
 """
 
 from __future__ import annotations
@@ -11,15 +12,19 @@ import errno
 import hmac
 import json
 import logging
+import re
 import secrets
 from collections.abc import Awaitable, Callable
 from contextlib import suppress
+from dataclasses import dataclass
+from pathlib import Path
 from typing import Any
 
 from aiohttp import WSMsgType, web
 
+from ..pages.html_page import HERE as PAGES
+from ..pages.html_page import SCRIPTS, drawing_library
 from ..problem import Problem, reason
-from .assets import HTML, assets
 from .drawing import Drawing, Message
 from .orders import Orders
 from .session import Session
@@ -32,6 +37,38 @@ MOST_MESSAGE = 1 << 24  # bytes
 HEADERS = {"Cache-Control": "no-store", "X-Content-Type-Options": "nosniff", "Referrer-Policy": "no-referrer", "X-Frame-Options": "DENY",
            "Cross-Origin-Resource-Policy": "same-origin", "Cross-Origin-Opener-Policy": "same-origin"}
 Handler = Callable[[web.Request], Awaitable[web.StreamResponse]]
+HERE = Path(__file__).resolve().parent
+MODULES = ("live", "socket", "form", "rows", "curve", "boxes", "signals", "works", "units", "report_view")
+HTML, STYLE, SCRIPT = "text/html", "text/css", "text/javascript"
+BODY = re.compile("<body>\n(.*?)<script>LIBRARY", re.DOTALL)
+
+
+@dataclass(frozen=True)
+class Asset:
+    """A file of the server: its kind and its text."""
+
+    kind: str
+    text: str
+
+
+def assets() -> dict[str, Asset]:
+    """The files by their names; the page itself has an empty one."""
+    body = BODY.search((PAGES / "page.html").read_text("utf-8"))
+    assert body  # the page of `report` has one
+    page = (HERE / "live.html").read_text("utf-8").replace("REPORT", body[1])
+    return {"": Asset(HTML, page), "page.css": Asset(STYLE, (PAGES / "page.css").read_text("utf-8")),
+            "live.css": Asset(STYLE, (HERE / "live.css").read_text("utf-8")), "d3.js": Asset(SCRIPT, drawing_library()),
+            "report.js": Asset(SCRIPT, report_script()),
+            **{f"{name}.js": Asset(SCRIPT, (HERE / f"{name}.js").read_text("utf-8")) for name in MODULES}}
+
+
+def report_script() -> str:
+    """The script of the page of `report` as a function of its data, which can be called anew; `inside.js` ends it.
+
+    Listeners of the window are given to it, so that those of an earlier call can be taken away.
+    """
+    scripts = "".join((PAGES / f"{name}.js").read_text("utf-8") for name in SCRIPTS)
+    return f"function reportPage(data, addEventListener, matchMedia) {{\n{scripts}{(HERE / 'inside.js').read_text('utf-8')}}}\n"
 
 
 class Server:
@@ -77,6 +114,7 @@ class Server:
 
     async def end(self) -> None:
         """Ends the server and its pages' sockets."""
+        await self.orders.works.end()
         for task in self._tasks:
             task.cancel()
         for page in list(self.pages):

@@ -179,14 +179,14 @@ class Session:
         self.saved = text
         self.replace(text)
 
-    def keep(self, name: str) -> None:
-        """Keeps the study as it is as a plan under a name, which it takes over from one that has it."""
+    def keep(self, name: str, text: str | None = None) -> None:
+        """Keeps the study as it is, or another text, as a plan under a name, which it takes over from one that has it."""
         name = name.strip()
         if not name:
             raise Problem("a plan needs a name")
         if len(self.plans) >= MOST_PLANS and name not in self.plans:
             raise Problem(f"{MOST_PLANS} plans are kept already; forget one of them first")
-        self.plans[name] = self.text
+        self.plans[name] = self.text if text is None else text
 
     def forget(self, name: str) -> None:
         """Forgets a plan."""

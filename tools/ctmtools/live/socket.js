@@ -23,6 +23,9 @@ export class Socket {
   send(order) {
     if (this.socket.readyState === WebSocket.OPEN) this.socket.send(JSON.stringify(order));
   }
+  // Whether all that was dragged is answered.
+  get settled() { return !this.waiting && !this.unanswered; }
+
   // An order that a newer one may overtake.
   drag(order) {
     this.waiting = order;

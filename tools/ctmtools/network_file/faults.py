@@ -195,7 +195,7 @@ def _check_whole(number: int, draft: Draft) -> None:
         raise FaultFound(number, "NoCells", expected="at least one road, gate or exit")
     demand = sum(amount * max(0, min(end, draft.steps) - begin) for begin, end, amount in draft.demands)
     if draft.first + demand > MOST_PARTS:
-        raise FaultFound(number, "TooMuch", expected="at most 10000000 vehicles, first occupancies and demand together")
+        raise FaultFound(number, "TooMuch", expected="at most 10000000 vehicles, at first and by demand together")
     if draft.regions:
         bare = next((name for name in draft.cells if name not in draft.regions), None)
         if bare is not None:

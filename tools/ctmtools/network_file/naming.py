@@ -28,6 +28,8 @@ class Naming:
         place = self.place(cell)
         if place is None:
             return f"the {self.network.kinds[cell]} {cell}"
+        if cell in self.units.within:
+            return f"road {self.units.made_place(cell)}"
         return f"road {place['road']} from km {place['from_km']:.6g} to {self.units.cells[last or cell]['to_km']:.6g}"
 
     def time(self, step: int) -> str:

@@ -72,8 +72,8 @@ def _dead_ends(network: Network, naming: Naming) -> Iterator[Warning]:
         place = naming.place(cell)
         if place:
             yield Warning("dead ends", _line(network, cell),
-                          f"road {place['road']} at km {place['to_km']:.6g} has no way on: neither an exit nor a road, "
-                          "so what comes there stays")
+                          f"road {place['road']} at km {place['to_km']:.6g} leads neither to an exit nor to a road, "
+                          "so vehicles that come there stay")
             continue
         follower = _follower(network, names, number)
         hint = f" Is a link,{cell},{follower} forgotten?" if follower else ""
@@ -122,7 +122,7 @@ def _gates_without_demand(network: Network, naming: Naming) -> Iterator[Warning]
     fed = {gate for _, (gate, *_) in network.numbered("demand")}
     for cell, row in network.of_cells.items():
         if row["kind"] == "gate" and cell not in fed and not row["first"]:
-            yield Warning("gates without demand", _line(network, cell), f"the gate {cell} has no demand: nobody comes")
+            yield Warning("gates without demand", _line(network, cell), f"the gate {cell} has no demand: no vehicle comes")
 
 
 def _high_demands(network: Network, naming: Naming) -> Iterator[Warning]:

@@ -18,3 +18,10 @@ function timeAxis(scale, count) {
   const [low, high] = scale.domain(), span = SPANS.find(wide => (high - low) / wide <= count) || SPANS[SPANS.length - 1];
   return d3.axisBottom(scale).tickValues(d3.range(Math.ceil(low / span) * span, high + 1e-6, span)).tickFormat(clockText);
 }
+// Closures and signals as marks: their texts, and how they stand at a frame.
+const closureText = ({ begin, end, flow }) => `${flow > 0 ? `${told(flow, 0)} ${data.units.flow}` : "closed"} ${clockText(begin)} to ${clockText(end)}`;
+const signalText = signal => `signal, cycle ${told(signal.cycle, 1)} ${data.clock.known ? "s" : "steps"}`;
+const isGreen = (signal, time) => {
+  const within = ((time - signal.zero) % signal.cycle + signal.cycle) % signal.cycle;
+  return signal.greens.some(([begin, end]) => within >= begin && within < end);
+};

@@ -21,13 +21,12 @@ from ..report.comparability import names_of
 from ..report.measures import hour_of
 from ..report.queues import SLOW
 from ..report.reading import Report
-from ..report.routes import roads_and_gates as folded
 from ..report.summary import number_text
 from ..texts.text_table import listed
 from .background import Background
 from .draws import draws_of
 from .frames import Frames, bounds_of
-from .networks import is_measured, network_of, roads_of, speed_limits
+from .networks import closures_of, is_measured, network_of, roads_of, signals_of, speed_limits, titles_of, whole_roads
 from .tables import approaches_of, differing, greens_of, queues_of, reports_of, table_of, unlike_lines
 from .ways import ways_of
 
@@ -84,13 +83,14 @@ def data_of(reports: Sequence[Report], background: Background | None = None, dra
         network = network_of(report, measured, place)
         if network not in networks:
             networks.append(network)
-        shown.append({"network": networks.index(network), "limits": speed_limits(report), "queues": queues_of(report, bounds), **own.data()})
+        shown.append({"network": networks.index(network), "limits": speed_limits(report), "closures": closures_of(report),
+                      "signals": signals_of(report), "queues": queues_of(report, bounds), **own.data()})
     heading = heading or Heading()
     return {"title": heading.title or _title(reports), "author": heading.author or "", "logo": heading.logo_data(), "subtitle": _subtitle(reports),
             "provenance": provenance(reports), "notes": _notes(reports, bounds), "names": names, "slow": SLOW,
             "measured": measured, "hour": hour_of(first), "units": _units(first, measured),
             "schematic": not first.units.points, "times": _labels(first, bounds), "clock": _clock(first, bounds),
-            "networks": networks, "reports": shown, "opening": opening(frames),
+            "networks": networks, "titles": titles_of(reports), "reports": shown, "opening": opening(frames),
             "tables": {"roads": table_of(reports), "cells": differing(reports, names), "told": unlike_lines(reports, names),
                        "reports": reports_of(reports, names) if len(reports) > 1 else None, "greens": greens_of(reports, names),
                        "approaches": approaches_of(reports, names)},
@@ -102,10 +102,10 @@ def _need_alike(reports: Sequence[Report]) -> None:
     for report in reports:
         report.need_records()
         if "road" not in report.need_network().kinds.values():
-            raise Problem(f"{report.name}: its network has no road, of which a page could tell")
+            raise Problem(f"{report.name}: its network has no road that a page could show")
         if report.steps != first.steps or (report.units.step, report.units.start) != (first.units.step, first.units.start):
             raise Problem(f"{report.name}: is of other times than {first.name}, so they can't stand side by side; "
-                          "`ctm-tools compare` tells their totals")
+                          "`ctm-tools compare` prints their totals")
 
 
 def opening(frames: Sequence[Frames]) -> dict[str, Any]:
@@ -116,13 +116,13 @@ def opening(frames: Sequence[Frames]) -> dict[str, Any]:
     without delay it is the one to whose cells most vehicles came.
     """
     roads = [(i, road, cells) for i, own in enumerate(frames) for road, cells in roads_of(own.report).items()]
-    whole = [folded(own.report) for own in frames]
+    whole = [whole_roads(own.report) for own in frames]
 
     def costs(row: tuple[int, str, list[str]]) -> tuple[float, float]:
         """The delay of a road with the cells before its stop line, and who came to it."""
         i, road, cells = row
         found = frames[i].report.cells
-        return float(found.wait[whole[i].get(road, cells)].sum()), float(found.come[cells].sum())
+        return float(found.wait[whole[i][road]].sum()), float(found.come[cells].sum())
 
     i, road, cells = max(roads, key=costs)
     own, waits = frames[i], frames[i].report.cells.wait

@@ -31,9 +31,9 @@ function drawCurves() {
 }
 // Where a cell is, in words.
 function placeText(cell, long) {
-  if (cell.kind !== "road") return `${cell.kind} ${cell.name}`;
-  if (cell.place) return cell.place;
-  if (cell.junction) return `${long ? "Cell " : ""}${cell.name}, ${cell.junction}`;
+  if (cell.kind !== "road") return `${cell.kind} ${called(cell.name)}`;
+  if (cell.place || cell.junction) return cell.place || cell.junction;
   const way = `${data.units.place} ${+cell.from.toFixed(3)} to ${+cell.to.toFixed(3)}`;
+  if (data.titles[cell.road]) return `${called(cell.road)}, ${way}`;
   return cell.road ? `${long ? "Cell " : ""}${cell.name}, road ${cell.road}, ${way}` : `Cell ${cell.name}`;
 }

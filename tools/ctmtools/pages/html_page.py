@@ -19,7 +19,7 @@ HERE = Path(__file__).resolve().parent
 DRAWING_LIBRARY = Path("/usr/share/nodejs/d3/dist/d3.min.js")
 # The files of the script in the order in which they stand in the page; the last one draws what the others define.
 SCRIPTS = ("values", "view", "colours", "clock", "drawing", "tiles", "names", "map", "space", "curves", "queues", "ways", "draws",
-           "hover", "table", "play", "print", "page")
+           "hover", "table", "play", "print", "save", "page")
 
 
 def page_of(reports: Sequence[Report], library: str | None = None, background: Background | None = None,

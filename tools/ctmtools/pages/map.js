@@ -48,8 +48,43 @@ function drawMap() {
     colour(value(state.quantity, i, state.frame)) : soft));
   pen.lineCap = "round";
   trace(pen, place, cells[chosen()], 2, paint("ink"));
+  drawMarks(pen, place);
   drawNames(pen, place, width, height);
 }
+// Signals as dots, green or red at the frame's beginning; closures as crosses, strong while they hold.
+function drawMarks(pen, place) {
+  const { cells, signals, closures } = shown(), time = bounds[state.frame], drawn = new Set();
+  for (const signal of signals) {
+    const line = cells[signal.at].line, [x, y] = place(line[line.length - 1]), green = signals.some(other => other.at === signal.at && isGreen(other, time));
+    if (drawn.has(signal.at)) continue;
+    drawn.add(signal.at);
+    pen.beginPath();
+    pen.arc(x, y, 4, 0, 2 * Math.PI);
+    pen.fillStyle = paint(green ? "green" : "red");
+    pen.fill();
+    pen.lineWidth = 1.5;
+    pen.strokeStyle = paint("paper");
+    pen.stroke();
+  }
+  for (const closure of closures) {
+    const [x, y] = place(middle(cells[closure.cells[Math.floor(closure.cells.length / 2)]].line));
+    pen.beginPath();
+    line(pen, x - 6, y - 6, x + 6, y + 6);
+    line(pen, x - 6, y + 6, x + 6, y - 6);
+    pen.lineWidth = 3;
+    pen.strokeStyle = paint(time >= closure.begin && time < closure.end ? "red" : "soft");
+    pen.stroke();
+  }
+}
+// What is written beside closures before all other names, and beside signals behind them.
+const closureNames = () => shown().closures.map(closure => {
+  const { line: way } = shown().cells[closure.cells[Math.floor(closure.cells.length / 2)]];
+  return { text: closureText(closure), point: middle(way), upright: upright(way), mark: true };
+});
+const signalNames = () => shown().signals.map(signal => {
+  const { line: way } = shown().cells[signal.at];
+  return { text: signalText(signal), point: way[way.length - 1], upright: upright(way) };
+});
 // The cell nearest to a point of the screen, and how far it is in px.
 function nearest(x, y) {
   const box = byId("map"), { place } = places(box.clientWidth, box.clientHeight);

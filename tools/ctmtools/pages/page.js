@@ -21,6 +21,7 @@ function show() {
   drawSpace();
   drawCurves();
   drawQueues();
+  drawSignal();
   drawWays();
   drawDraws();
   fitTable();
@@ -46,12 +47,16 @@ function chooseRoad(road, cell) {
   drawTable();
   show();
 }
+function showSignal(approach) {
+  state.signal = approach;
+  drawSignal();
+}
 function options(id, entries, chosenNow) {
   byId(id).append(...entries.map(([key, text]) => new Option(text, key)));
   byId(id).addEventListener("change", event => chosenNow(event.target.value));
 }
 function fillRoads() {
-  byId("road").replaceChildren(...Object.keys(shown().roads).map(road => new Option(road, road)));
+  byId("road").replaceChildren(...Object.keys(shown().roads).map(road => new Option(called(road), road)));
   byId("road").value = state.road;
 }
 function see({ report, against }) {
@@ -61,6 +66,7 @@ function see({ report, against }) {
   drawTable();
   show();
 }
+addSavers();
 byId("logo").hidden = !data.logo;
 if (data.logo) byId("logo").src = data.logo;
 for (const id of ["title", "author", "subtitle", "provenance", "notes"]) byId(id).textContent = data[id];
@@ -83,6 +89,7 @@ options("measure", roadsTable.measures.map((measure, i) => [i, headOf(measure)])
 });
 byId("view").value = state.report;
 byId("road").addEventListener("change", event => chooseRoad(event.target.value));
+byId("signal").addEventListener("change", event => showSignal(event.target.value));
 byId("views").hidden = count < 2;
 byId("measures").hidden = count < 3;
 zoomable("map", byId("map").querySelector("canvas"), transform => { mapZoom = transform; drawMap(); });

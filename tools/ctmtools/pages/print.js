@@ -7,12 +7,12 @@ function height(element) { return element.getBoundingClientRect().height; }
 const topOf = name => byId(name).getBoundingClientRect().top;
 // By how much the second page is too long.
 const tooLong = () => byId("notes").getBoundingClientRect().bottom - topOf("of-cell") - PAGE + LINE;
-// Has the diagram fill the first page, and leaves out what finds no room on the second: the cells, and then rows of greens and of roads.
+// Has the diagram fill the first page, and leaves out what finds no room on the second: the cells, the signal, and then rows of greens and of roads.
 function fitPages() {
   const over = topOf("of-cell") - document.body.getBoundingClientRect().top - PAGE;
   byId("space").style.height = `${Math.max(90, Math.min(MOST_SPACE, height(byId("space")) - over))}px`;
-  byId("differing").classList.toggle("late", tooLong() > 0);
-  leaveOut([...document.querySelectorAll("#pair-ways tbody tr")].slice(MOST_WAYS_PRINTED - 1), late => tellWays(`${late} more ways are left out here.`));
+  for (const id of ["differing", "of-signals"]) byId(id).classList.toggle("late", tooLong() > 0);
+  leaveOut([...document.querySelectorAll("#pair-ways tbody tr")].slice(MOST_WAYS_PRINTED - 1), late => tellWays(`${late} more routes are left out here.`));
   leaveOut([...document.querySelectorAll("#greens tbody tr")], late => { byId("greens-more").textContent = `${late} more rows are left out here.`; });
   leaveOut([...document.querySelectorAll("#roads tbody tr")], late => { byId("more").textContent = `${late} more rows are left out here.`; });
 }
@@ -47,6 +47,6 @@ function toScreen() {
   byId("space").style.height = "";
   byId("more").textContent = byId("greens-more").textContent = "";
   if (data.ways) tellWays(waysText());
-  document.querySelectorAll("#roads tr.late, #greens tr.late, #pair-ways tr.late, #differing").forEach(row => row.classList.remove("late"));
+  document.querySelectorAll("#roads tr.late, #greens tr.late, #pair-ways tr.late, #differing, #of-signals").forEach(row => row.classList.remove("late"));
   show();
 }

@@ -65,23 +65,67 @@ function drawOutlines(pen, x, y, kms, width, height) {
     pen.setLineDash([]);
   }
   outline(pen, shown(), cells, x, y, kms);
-  drawLimits(pen, cells, x, y, kms);
+  const within = [edges.left, edges.top, width - edges.right, height - edges.bottom];
+  const names = [...drawSpans(pen, shown().closures, cells, x, y, kms), ...drawReds(pen, cells, x, y, kms, within),
+    ...drawSpans(pen, shown().limits, cells, x, y, kms)];
+  marksDrawn = [];
+  penOfNames(pen);
+  for (const { text, places, colour } of names) {
+    const wide = pen.measureText(text).width, [box] = freeBoxes(places.map(([left, top]) => [Math.max(left, within[0] + 2), top, wide + 4]), marksDrawn, within);
+    if (!box) continue;
+    marksDrawn.push({ text, box });
+    writeName(pen, text, box, colour);
+  }
   pen.restore();
 }
-// Where and when speed limits hold, dotted, with the speed.
-function drawLimits(pen, cells, x, y, kms) {
-  pen.fillStyle = paint("ink");
-  pen.setLineDash([1.5, 2.5]);
-  for (const { begin, end, speed, cells: held } of shown().limits) {
-    const own = new Set(held), rows = d3.range(cells.length).filter(row => own.has(cells[row]));
-    for (const first of rows.filter(row => !own.has(cells[row - 1]))) {
+let marksDrawn = [];  // the texts in the diagram, with their boxes
+// Where and when closures and speed limits hold on the road: outlined, with what is written beside them.
+function drawSpans(pen, spans, cells, x, y, kms) {
+  return spans.flatMap(span => {
+    const own = new Set(span.cells), rows = d3.range(cells.length).filter(row => own.has(cells[row])), limit = span.speed !== undefined;
+    return rows.filter(row => !own.has(cells[row - 1])).map(first => {
       let last = first;
       while (own.has(cells[last + 1])) last++;
-      pen.strokeRect(x(begin), y(kms[last + 1]), x(end) - x(begin), y(kms[first]) - y(kms[last + 1]));
-      pen.fillText(`${speed} ${data.units.speed}`, x(begin) + 4, y(kms[last + 1]) + 11);
+      const [left, right, top, foot] = [x(span.begin), x(span.end), y(kms[last + 1]), y(kms[first])];
+      pen.setLineDash(limit ? [1.5, 2.5] : [6, 2]);
+      pen.lineWidth = limit ? 1 : 1.5;
+      pen.strokeStyle = paint(limit ? "ink" : "red");
+      pen.strokeRect(left, top, right - left, foot - top);
+      const text = limit ? `${span.speed} ${data.units.speed}, ${clockText(span.begin)} to ${clockText(span.end)}` : closureText(span);
+      return { text, colour: limit ? "ink" : "red", places: [[left + 4, top + 3], [left + 4, top - LETTER - 3], [left + 4, foot + 3]] };
+    });
+  });
+}
+// The reds of the signals of a road at their stop lines, where there is room for a cycle, else where they stand.
+const LEAST_CYCLE = 4;  // px
+function drawReds(pen, cells, x, y, kms, [left, top, right]) {
+  const found = [];
+  pen.setLineDash([]);
+  for (const place of new Set(shown().signals.map(signal => signal.at))) {
+    const row = cells.indexOf(place), signals = shown().signals.filter(signal => signal.at === place);
+    if (row < 0) continue;
+    const { cycle, zero } = signals[0], level = y(kms[row + 1]);
+    const reds = Math.abs(x(begins + cycle) - x(begins)) < LEAST_CYCLE ? [[begins, ends]] : redsOf(signals, cycle, zero, x.invert(left), x.invert(right));
+    pen.beginPath();
+    for (const [begin, end] of reds) line(pen, x(begin), level, x(end), level);
+    pen.lineWidth = 3;
+    pen.strokeStyle = paint("red");
+    pen.stroke();
+    found.push({ text: signalText(signals[0]), colour: "ink", places: [[left + 4, level + 4], [left + 4, level - LETTER - 5], [right - 130, level + 4]] });
+  }
+  return found;
+}
+// The spans between two times in which none of some signals with one cycle is green.
+function redsOf(signals, cycle, zero, low, high) {
+  const greens = d3.merge(signals.map(signal => signal.greens)).sort((a, b) => a[0] - b[0]), found = [];
+  for (let start = zero + Math.floor((Math.max(low, begins) - zero) / cycle) * cycle; start < Math.min(high, ends); start += cycle) {
+    let from = 0;
+    for (const [begin, end] of [...greens, [cycle, cycle]]) {
+      if (begin > from) found.push([start + from, start + begin]);
+      from = Math.max(from, end);
     }
   }
-  pen.setLineDash([]);
+  return found.map(([begin, end]) => [Math.max(begin, begins), Math.min(end, ends)]).filter(([begin, end]) => end > begin);
 }
 // A bar beside the cells of the chosen way.
 function drawLit(pen, y, kms) {

@@ -22,7 +22,7 @@ function columns() {
   });
 }
 function sorted(rows, by) {
-  const key = by ? by.of : row => row.name;
+  const key = by ? by.of : row => rowName(row.name);
   const falls = (a, b) => d3.descending(key(a), key(b)), rises = (a, b) => d3.ascending(key(a), key(b));
   const lacks = row => key(row) === null || key(row) === undefined;
   return rows.slice().sort((a, b) => lacks(a) - lacks(b) || (order.rising ? rises(a, b) : falls(a, b)));
@@ -61,7 +61,7 @@ function drawTable() {
   drawHead(table, list);
   const drawn = table.append("tbody").selectAll("tr").data(rows).join("tr").attr("data-road", row => shown().roads[row.name] ? row.name : null)
     .attr("class", row => row.name === state.road ? "chosen" : null).on("click", function () { chooseRoad(this.dataset.road); });
-  drawn.selectAll("td").data(row => [row.name, ...list.map(column => told(column.of(row), column.digits))]).join("td").text(text => text);
+  drawn.selectAll("td").data(row => [rowName(row.name), ...list.map(column => told(column.of(row), column.digits))]).join("td").text(text => text);
   const all = table.append("tfoot").append("tr").attr("class", "all");
   all.append("td").text("in all");
   const total = { of: roadsTable.total };
@@ -96,6 +96,8 @@ function drawApproaches() {
   boxes.append("summary").append("h2").text(table => table.head);
   boxes.append("div").attr("class", "scroll").append("table").attr("id", (_, i) => `approaches-${i}`);
   tables.forEach((table, i) => drawPlain(`approaches-${i}`, table));
+  d3.selectAll("#approaches tbody tr").filter(row => data.reports.some(report => report.signals.some(signal => signal.approach === row[0])))
+    .attr("data-signal", row => row[0]).on("click", function () { showSignal(this.dataset.signal); });
 }
 function drawTables() {
   drawTable();

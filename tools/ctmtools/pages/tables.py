@@ -15,7 +15,7 @@ from ..report.reading import Report
 from ..report.routes import roads_and_gates as folded
 from ..report.travel import road_times
 from ..yielding.messages import AT_GREENS, HEADS, green_rows
-from .networks import is_measured, junctions_of, place_of, roads_of
+from .networks import RoadNames, is_measured, junctions_of, roads_of, whole_roads
 
 if TYPE_CHECKING:
     import pandas
@@ -57,22 +57,21 @@ def parts_of(report: Report) -> dict[str, list[str]]:
     made, within = folded(report), report.units.within
     gates = {name: made.get(name, cells) for name, cells in gates.items()}
     junctions = {name: [cell for cell in cells if cell not in within] for name, cells in junctions_of(report).items()}
-    parts = {**{road: made.get(road, cells) for road, cells in roads_of(report).items()},
-             **{name: cells for name, cells in junctions.items() if cells}, **gates}
+    parts = {**whole_roads(report), **{name: cells for name, cells in junctions.items() if cells}, **gates}
     told = {cell for cells in parts.values() for cell in cells}
     rest = [cell for cell, kind in kinds.items() if cell not in told and (kind != "exit" or report.cells.wait[cell] > 0)]
     return {**parts, **({"other cells": rest} if rest else {})}
 
 
 def _rows(report: Report) -> dict[str, Figures]:
-    network, queued, travel = report.need_network(), _queued(report), _travel(report)
+    network, queued, travel, roads = report.need_network(), _queued(report), _travel(report), roads_of(report)
     within, found = junctions_of(report), {}
     for name, cells in parts_of(report).items():
         own = set(cells)
         ends = [cell for cell in cells if not own.intersection(network.graph.successors(cell))] or cells[-1:]
         gate = all(network.kinds[cell] != "road" for cell in cells)
         gone = float(report.cells.gone[ends].sum())
-        length = None if gate or name in within else _length(report, report.units.roads.get(name, cells))
+        length = None if gate or name in within else _length(report, roads.get(name, cells))
         found[name] = _figures(report, float(report.cells.wait[cells].sum()), gone, length,
                                None if gate else queued[cells], travel.get(name))
     return found
@@ -112,9 +111,11 @@ def _queued(report: Report) -> pandas.DataFrame:
 
 
 def _travel(report: Report) -> dict[str, float]:
-    """The mean travel time of each road on which somebody arrived, in minutes, or in steps."""
-    step = report.units.step
-    return {time.road: time.mean * (step / 60 if step is not None else 1) for time in road_times(report)}
+    """The mean travel time of each road on which somebody arrived, in minutes, or in steps; of several that are one their sum."""
+    unit = 1 if report.units.step is None else report.units.step / 60
+    times = {time.road: time.mean * unit for time in road_times(report)}
+    chains = RoadNames(report).chains
+    return {road: sum(times[one] for one in chain) for road, chain in chains.items() if all(one in times for one in chain)}
 
 
 def reports_of(reports: Sequence[Report], names: Sequence[str]) -> dict[str, Any]:
@@ -136,7 +137,8 @@ def differing(reports: Sequence[Report], names: Sequence[str]) -> dict[str, Any]
     changed = frame[(frame.delay_rise.abs() >= LEAST_CHANGE) | (frame.left_rise.abs() >= LEAST_CHANGE)]
     unit = frame.attrs["units"]["delay"]
     heads = [f"{what}, {of}" for what in (f"delay, {unit}", "vehicles that left") for of in (*names, "rise")]
-    rows = [[place_of(reports[0], str(cell)), *(None if value != value else round(float(value), 6) for value in row)]
+    called = RoadNames(reports[0])
+    rows = [[called.place_of(str(cell)), *(None if value != value else round(float(value), 6) for value in row)]
             for cell, row in changed[:MOST_CELLS].iterrows()]
     return {"columns": ["cell", *heads], "rows": rows, "count": len(changed)}
 
@@ -154,9 +156,22 @@ def unlike_lines(reports: Sequence[Report], names: Sequence[str]) -> list[str]:
 
 def greens_of(reports: Sequence[Report], names: Sequence[str]) -> list[dict[str, Any]]:
     """What each report loses at fixed greens by coming at random, as `run` tells it: a head, and a row for each lane group."""
-    told = [(name, *green_rows(report)) for name, report in zip(names, reports)]
+    lost = [(report, *green_rows(report)) for report in reports]
+    told = [(name, hours, _called_groups(report, rows)) for name, (report, hours, rows) in zip(names, lost)]
     of = {name: f"{name}: " if len(names) > 1 else "" for name in names}
     return [{"head": f"{of[name]}{AT_GREENS}: {hours}", "columns": HEADS, "rows": rows} for name, hours, rows in told if rows]
+
+
+def _called_groups(report: Report, rows: Sequence[tuple[str, ...]]) -> list[tuple[str, ...]]:
+    """Rows of lane groups by the approach and the ways that they take where these are known, not by their place in the study."""
+    names, approaches = RoadNames(report), report.units.approaches
+    movements = {one.cells[-1]: (approach.name, one.into) for approach in approaches for one in approach.movements if one.cells}
+    called = {}
+    for group in report.units.at_random.lane_groups:
+        own = [movements[cell] for cell in group.cells if cell in movements]
+        if own:
+            called[group.name] = names.moving(names.approach(own[0][0]), own[0][0], [into for _, into in own])
+    return [(called.get(name, name), *row) for name, *row in rows]
 
 
 def approaches_of(reports: Sequence[Report], names: Sequence[str]) -> list[dict[str, Any]]:
@@ -171,14 +186,18 @@ def queues_of(report: Report, bounds: Sequence[int]) -> list[dict[str, Any]]:
     if not report.units.known or not report.units.approaches:
         return []
     courses = sorted(queue_courses(report, bounds).items(), key=lambda row: -float(row[1].max()))
-    return [{"name": name, "metres": [round(float(value), 1) for value in course]} for name, course in courses[:MOST_COURSES]]
+    names = RoadNames(report)
+    return [{"name": names.approach(name), "metres": [round(float(value), 1) for value in course]}
+            for name, course in courses[:MOST_COURSES]]
 
 
 def _service(report: Report, by: str) -> dict[str, Any]:
     """The columns and rows of a report's approaches, or of their movements."""
     frame = by_approach(report, by=by).sort_values("delay", ascending=False, kind="stable")
     columns = [name for name in SERVICE if name in frame]
-    titles = frame.approach + (" to " + frame.movement if by == "movement" else "")
+    names = RoadNames(report)
+    titles = [names.approach(name) if by == "approach" else names.moving(names.approach(name), name, [into])
+              for name, into in zip(frame.approach, frame.get("movement", frame.approach))]
     rows = [[title, *(_plain(value) for value in row)] for title, row in zip(titles, frame[columns].itertuples(index=False))]
     return {"columns": [by, *(SERVICE[name] for name in columns)], "rows": rows}
 

@@ -1,6 +1,6 @@
 // What is shown follows from `state`: a report, or what it has more than another one, at a frame.
 const state = { frame: data.opening.frame, quantity: "density", report: data.opening.report, against: null,
-  road: data.opening.road, cell: data.opening.cell, measure: 1, pair: 0, way: null, printing: false };
+  road: data.opening.road, cell: data.opening.cell, measure: 1, pair: 0, way: null, signal: null, printing: false };
 const dark = matchMedia("(prefers-color-scheme: dark)");
 const isDark = () => dark.matches && !state.printing;
 const byId = name => document.getElementById(name);
@@ -12,6 +12,13 @@ const chosen = () => shown().places.get(state.cell);
 const views = [...data.names.map((name, i) => ({ report: i, against: null, name })),
   ...data.names.slice(1).map((name, i) => ({ report: i + 1, against: 0, name: `${name} less ${data.names[0]}` }))];
 const viewName = () => views.find(view => view.report === state.report && view.against === state.against).name;
+
+// What a reader calls a road, a gate or an exit.
+const called = name => data.titles[name] || name;
+// The street of an imported road, with which the map names it.
+const HEADING = / (?:(?:north|south)(?:-(?:east|west))?|east|west)$/;
+const streetOf = road => data.titles[road] ? called(road).split(",")[0].replace(HEADING, "") : road;
+const rowName = name => name.startsWith("gate ") ? `gate ${called(name.slice(5))}` : called(name);
 
 // For each cell of a report the number of the same cell in another, where that is the same part of a road.
 function twinsOf(report, other) {

@@ -43,8 +43,8 @@ function chooseWay(number) {
   mark();
 }
 function roadsText(roads) {
-  const half = MOST_ROADS / 2;
-  return (roads.length > MOST_ROADS ? [...roads.slice(0, half), "…", ...roads.slice(-half)] : roads).join(" › ");
+  const half = MOST_ROADS / 2, names = roads.map(called);
+  return (names.length > MOST_ROADS ? [...names.slice(0, half), "…", ...names.slice(-half)] : names).join(" › ");
 }
 // The columns: vehicles and minutes in each report, and of two reports what the second takes more.
 function wayColumns() {
@@ -98,8 +98,8 @@ function stepFrom(rows, i, x, y) {
 function drawWayKey() {
   const key = d3.select("#ways-key");
   key.selectAll("*").remove();
-  const { from, to } = data.ways.pairs[state.pair], what = state.way === null ? `all ways from ${from} to ${to}` : roadsText(waysShown()[state.way].roads);
-  key.append("span").text(`By the time of setting out: ${what}`);
+  const { from, to } = data.ways.pairs[state.pair], what = state.way === null ? `all routes from ${called(from)} to ${called(to)}` : roadsText(waysShown()[state.way].roads);
+  key.append("span").text(`By time of departure: ${what}`);
   if (withWays.length > 1) for (const report of withWays) {
     const entry = key.append("span");
     entry.append("svg").append("line").attr("x1", 1).attr("x2", 25).attr("y1", 7).attr("y2", 7).attr("stroke", wayInk(report))
@@ -112,17 +112,17 @@ function drawWays() {
   drawWayTable();
   drawWayKey();
   drawSeries("way-times", "minutes", "mean time to the exit, min");
-  drawSeries("way-flows", "flow", "set out, vehicles/h");
+  drawSeries("way-flows", "flow", "departures, vehicles/h");
 }
 function fillPairs() {
   byId("ways").hidden = !data.ways;
   if (!data.ways) return;
   const most = pair => d3.max(withWays, report => d3.sum(pair.ways, way => vehiclesOn(way, report)));
-  options("pair", data.ways.pairs.map((pair, i) => [i, `${pair.from} to ${pair.to}: ${told(most(pair), 0)} vehicles`]), taken => {
+  options("pair", data.ways.pairs.map((pair, i) => [i, `${called(pair.from)} to ${called(pair.to)}: ${told(most(pair), 0)} vehicles`]), taken => {
     Object.assign(state, { pair: +taken, way: null });
     show();
   });
   byId("ways-more").textContent = waysText();
 }
-const waysText = () => "A click on a way lights it up in the map and in the diagram." +
-  (data.ways.left_out ? ` ${told(data.ways.left_out, 0)} ways that fewer take are left out.` : "");
+const waysText = () => "A click on a route shows it in the map and in the diagram." +
+  (data.ways.left_out ? ` ${told(data.ways.left_out, 0)} routes that fewer vehicles take are left out.` : "");

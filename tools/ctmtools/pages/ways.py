@@ -2,13 +2,14 @@
 
 from __future__ import annotations
 
-from collections.abc import Iterable, Sequence
+from collections.abc import Iterable, Mapping, Sequence
 from typing import Any
 
 from ..assignment.first_ways import cells_along
 from ..assignment.ways_file import WayRow, ways_of_report
 from ..report.reading import Report
 from ..study.plan import Route
+from .networks import RoadNames
 
 MOST_NUMBERS = 100_000  # of all reports, ways and intervals together, about a megabyte; the ways that most take come first
 
@@ -30,14 +31,29 @@ def ways_of(reports: Sequence[Report]) -> dict[str, Any] | None:
     ways = sorted(dict.fromkeys(way for own in by_way for way in own), key=lambda way: -_most([way], by_way))
     room = max(1, MOST_NUMBERS // (2 * len(reports) * len(starts)))
     of_reports = [_ReportWays(report, own, starts) for report, own in zip(reports, by_way)]
+    belongs = {road: first for report in reversed(reports) for road, first in _belongs(report).items()}
     pairs: dict[tuple[str, str], list[RouteRoads]] = {}
     for way in ways[:room]:
         pairs.setdefault(way[:2], []).append(way)
     return {"starts": starts, "widths": [_width(report) for report in reports], "has": [own is not None for own in found],
             "left_out": max(0, len(ways) - room),
-            "pairs": [{"from": source, "to": into, "ways": [{"roads": list(way[2]), "of": [one.data(way) for one in of_reports]}
+            "pairs": [{"from": source, "to": into, "ways": [{"roads": _shown(way[2], belongs),
+                                                             "of": [one.data(way) for one in of_reports]}
                                                             for way in own]}
                       for (source, into), own in sorted(pairs.items(), key=lambda pair: -_most(pair[1], by_way))]}
+
+
+def _belongs(report: Report) -> dict[str, str]:
+    """The road to which each road belongs on the page; none of what a junction made."""
+    made = {road: "" for road, cells in report.units.roads.items() if cells[0] in report.units.within}
+    return {**made, **RoadNames(report).belongs}
+
+
+def _shown(roads: Iterable[str], belongs: Mapping[str, str]) -> list[str]:
+    """The roads of a way as the page has them, each once where it goes on."""
+    found = [belongs.get(road, road) for road in roads]
+    found = [road for road in found if road]
+    return [road for place, road in enumerate(found) if not place or road != found[place - 1]]
 
 
 def _by_way(rows: Iterable[WayRow]) -> dict[RouteRoads, list[WayRow]]:

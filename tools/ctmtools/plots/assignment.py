@@ -35,7 +35,7 @@ def draw_gap(rounds: Sequence[Round], title: str) -> Figure:
     beside(axes[1], "Delay (vehicle-hours)")
     axes[1].xaxis.get_major_locator().set_params(integer=True)
     axes[1].set_xlabel("Round")
-    head(axes[0], f"{title}: what the ways taken need beyond the shortest, as a part of these")
+    head(axes[0], f"{title}: time of drivers beyond the best routes, as a part of these")
     return drawn
 
 
@@ -43,7 +43,7 @@ def draw_gap(rounds: Sequence[Round], title: str) -> Figure:
 def draw_ways(rows: Sequence[WayRow], report: Report, width: float) -> Figure:
     """Draws who sets out on the ways that most take, in vehicles/h, and the minutes that these need, over time."""
     if not rows:
-        raise Problem("nobody sets out, so there are no ways to draw")
+        raise Problem("no vehicle departs, so there are no routes to draw")
     ways: dict[tuple[str, str, tuple[str, ...]], list[WayRow]] = {}
     for row in rows:
         ways.setdefault((row.source, row.into, row.roads), []).append(row)
@@ -58,13 +58,12 @@ def draw_ways(rows: Sequence[WayRow], report: Report, width: float) -> Figure:
         for one, values in zip(axes, ([row.vehicles / hours for row in ways[way]], [row.minutes for row in ways[way]])):
             times, heights = _stairs(steps, numpy.array(values), width)
             one.plot(moments(report, times), heights, label=_named(way, common), **style(number))
-    for one, text in zip(axes, ("Set out (vehicles/h)", "Time to the exit (min)")):
+    for one, text in zip(axes, ("Departures (vehicles/h)", "Time to the exit (min)")):
         one.set_ylim(bottom=0)
         beside(one, text)
     time_axis(axes[1], report, 0, last)
-    note(axes[1], "Time of setting out" + ("" if len(ways) <= MOST_WAYS else
-                                           f"; {MOST_WAYS} of {len(ways)} ways, those that most take"))
-    head(axes[0], f"{report.title}: ways")
+    note(axes[1], "Time of departure" + ("" if len(ways) <= MOST_WAYS else f"; the {MOST_WAYS} busiest of {len(ways)} routes"))
+    head(axes[0], f"{report.title}: routes")
     axes[0].legend(loc="best")
     return drawn
 

@@ -72,7 +72,7 @@ def _lags(report: Report, cells: Sequence[str]) -> list[int]:
         try:
             lags.append(networkx.shortest_path_length(graph, cell, cells[-1]))
         except networkx.NetworkXNoPath:
-            raise Problem(f"{report.name}: no way leads from {cell} to {cells[-1]}") from None
+            raise Problem(f"{report.name}: no route leads from {cell} to {cells[-1]}") from None
     kinds = report.need_network().kinds
     # What has come is counted a step sooner than what has gone: at an exit, the last cell, and at a gate.
     at_exit = kinds[cells[-1]] == "exit"
@@ -81,7 +81,7 @@ def _lags(report: Report, cells: Sequence[str]) -> list[int]:
 
 def _label(report: Report, cell: str, kind: str, lag: int) -> str:
     row = report.units.cells.get(cell)
-    place = f"{cell}, road {row['road']} km {row['to_km']:g}" if row else cell
+    place = report.units.made_place(cell) or (f"{cell}, road {row['road']} km {row['to_km']:g}" if row else cell)
     what = {"gate": f"come to gate {cell}", "exit": f"come to exit {cell}"}.get(kind, f"past {place}")
     if not lag:
         return what

@@ -13,7 +13,7 @@ from .figure import beside, drawing, figure, head, legend_below, moments, named,
 @drawing
 def draw(report: Report, first: str | None = None, last: str | None = None, road: str | None = None,
          begin: str | None = None, until: str | None = None) -> Figure:
-    """Draws the travel time of who sets out at each recorded step, and that at free flow.
+    """Draws the travel time of who departs at each recorded step, and that at free flow.
 
     `first` and `last` are the ends of the route, as `ROAD.KM`, a gate or an exit; else it is the road, or the longest
     route.
@@ -28,7 +28,7 @@ def draw(report: Report, first: str | None = None, last: str | None = None, road
     else:
         axes.axhline(driven.mean_free * scale, label="at free flow", **style(2))
     time_axis(axes, report, *span_of(report, begin, until))
-    note(axes, f"Time of setting out at {_place(report, cells[0], 'from_km')}, to {_place(report, cells[-1], 'to_km')}")
+    note(axes, f"Time of departure at {_place(report, cells[0], 'from_km')}, to {_place(report, cells[-1], 'to_km')}")
     beside(axes, "Travel time (min)" if report.units.known else "Travel time (steps)")
     axes.set_ylim(bottom=0)
     head(axes, f"{report.title}: travel time")
@@ -37,5 +37,5 @@ def draw(report: Report, first: str | None = None, last: str | None = None, road
 
 
 def _place(report: Report, cell: str, end: str) -> str:
-    row = report.units.cells.get(cell)
-    return f"{row['road']} km {row[end]:g}" if row else cell
+    row, made = report.units.cells.get(cell), report.units.made_place(cell)
+    return made or (f"{row['road']} km {row[end]:g}" if row else cell)

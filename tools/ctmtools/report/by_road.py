@@ -39,7 +39,7 @@ def bounds_of(report: Report, every: float | None) -> list[int]:
         return [int(report.times[0]), int(report.times[-1])]
     width = every if step is None else every / step
     if width < report.times[1] - report.times[0]:
-        raise Problem("--interval: is less than the way from record to record")
+        raise Problem("--interval: is less than the time from record to record")
     wanted = numpy.arange(0, report.steps + width, width)
     found = [int(report.times[min(place, len(report.times) - 1)]) for place in numpy.searchsorted(report.times, wanted)]
     return sorted(set(found))

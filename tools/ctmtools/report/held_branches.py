@@ -50,7 +50,7 @@ def held_lines(report: Report) -> Iterator[str]:
     costly = [one for one in held_branches(report) if one.delay >= least] if report.recorded and report.network else []
     for one in costly[:MOST_TOLD]:
         yield (f"Before {where(report, one.before)} {number_text(report.units.hours(one.delay))} {report.units.delay_unit} are waited for "
-               f"{one.full} while {one.free} is free: who drives there waits too, since a diverge holds up all")
+               f"{one.full} while {one.free} is free: vehicles bound for that one wait too, since a diverge holds up all")
 
 
 def _waited(report: Report, cell: str, standing: Flags, waits: Numbers) -> float:

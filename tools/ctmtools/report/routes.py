@@ -29,7 +29,7 @@ def route_of(report: Report, start: str | None = None, end: str | None = None,
         try:
             cells = networkx.shortest_path(network.graph, start, end)
         except networkx.NetworkXNoPath:
-            raise Problem(f"{report.name}: no way leads from {start} to {end}") from None
+            raise Problem(f"{report.name}: no route leads from {start} to {end}") from None
     elif end:
         cells = _follow(network, end, back=True)[::-1]
     elif start:

@@ -166,8 +166,8 @@ def kilometre(value: float) -> str:
 def where(report: Report, cell: str, upstream: bool = False) -> str:
     """A cell with its road and the kilometre of its end, downstream or upstream, where these are known."""
     row = report.units.cells.get(cell)
-    if not row:
-        return cell
+    if not row or cell in report.units.within:
+        return report.units.made_place(cell) or cell
     return f"{cell} ({row['road']} km {kilometre(row['from_km' if upstream else 'to_km'])})"
 
 

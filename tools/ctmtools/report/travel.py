@@ -192,7 +192,7 @@ def chain_of(report: Report, begin: str | None = None, end: str | None = None, r
     try:
         cells = networkx.shortest_path(report.need_network().graph, first, last)
     except networkx.NetworkXNoPath:
-        raise Problem(f"{report.name}: no way leads from {begin} to {end}") from None
+        raise Problem(f"{report.name}: no route leads from {begin} to {end}") from None
     return _driven(report, cells)
 
 

@@ -77,7 +77,7 @@ def moved(points: Sequence[Point], source: str, target: str, key: str) -> list[P
     try:
         across = _across(source, target)
     except ProjError:
-        raise Problem(f"{key}: no way is known from {source} to {target}") from None
+        raise Problem(f"{key}: no conversion is known from {source} to {target}") from None
     found: Any = [across.transform(x, y, errcheck=False) for x, y in points]
     for point, (x, y) in zip(points, found):
         if not (abs(x) < float("inf") and abs(y) < float("inf")):

@@ -181,7 +181,7 @@ class Expansion:
     def _actuated(self) -> ActuatedJunction:
         """The greens of the junction where some of them follow traffic."""
         if self.crossing.yields:
-            raise Problem(f"{self.crossing.yields[0].place}: who gives way at a signal does so in fixed greens, and those of this "
+            raise Problem(f"{self.crossing.yields[0].place}: a movement gives way at a signal in fixed greens alone, and those of this "
                           "junction follow traffic")
         crossing, cycle = self.crossing, self.crossing.cycle or Fraction(0)
         apart = next((way for way in self.movements if self._stop_line(way) != crossing.sources[way[0]]), None)

@@ -106,10 +106,10 @@ def _check_shares(table: Entries, found: Crossing) -> None:
     for name, shares in tables:
         for source, row in zip(found.sources, shares):
             if not any(row):
-                raise Problem(f"{table.key(name)}: nobody drives on from {source}; one of its shares is above 0")
+                raise Problem(f"{table.key(name)}: no vehicle drives on from {source}; one of its shares must be above 0")
     for j, target in enumerate(found.into):
         if not any(out == j for _, out in movements(found)):
-            raise Problem(f"{table.key('shares')}: nobody drives into {target}; one of its shares is above 0")
+            raise Problem(f"{table.key('shares')}: no vehicle drives into {target}; one of its shares must be above 0")
     for i, j in movements(found):
         for name, numbers in (("priorities", found.priorities), ("lanes", found.lanes)):
             if numbers and not numbers[i][j]:

@@ -33,7 +33,7 @@ def movement_of(value: object, key: str, found: Crossing) -> Movement:
             raise Problem(f"{key}: {arm} isn't of this junction, which has {', '.join(known)}")
     way = found.sources.index(pair[0]), found.into.index(pair[1])
     if way not in movements(found):
-        raise Problem(f"{key}: nobody drives from {movement_name(found, way)}")
+        raise Problem(f"{key}: no vehicle drives from {movement_name(found, way)}")
     return way
 
 

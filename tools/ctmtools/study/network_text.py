@@ -108,9 +108,9 @@ class Builder:
             yield f"{junction.place}: its greens {FIXED}; `ctm-tools run` has them follow traffic"
         free = [one.name for one in self.study.yields if one.capacities is None]
         for name in free[:MOST_FREE]:
-            yield f"{name}: nobody gives way in this network; `ctm-tools run` works out what passes, and writes the network with it"
+            yield f"{name}: doesn't give way in this network; `ctm-tools run` works out what passes, and writes the network with it"
         if len(free) > MOST_FREE:
-            yield f"and {len(free) - MOST_FREE} more who don't give way in this network"
+            yield f"and {len(free) - MOST_FREE} more that don't give way in this network"
 
     def _opened(self) -> Iterator[str]:
         """What an opening makes of the room of its cells, which a closed lane has too."""

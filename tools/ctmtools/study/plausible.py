@@ -44,7 +44,7 @@ def implausible(study: Scenario, layout: Layout) -> Iterator[str]:
     count = sum(map(len, layout.cells.values()))
     if count > MOST_CELLS:
         yield (f"the study has {count:,} cells, which take long; a longer step gives fewer: with {rounded_text(study.step)} s "
-               "a cell is as long as the way of that time at the free-flow speed")
+               "a cell is as long as what is driven in that time at the free-flow speed")
 
 
 def _first_few(lines: list[str], what: str) -> list[str]:
@@ -59,7 +59,7 @@ def _holes(study: Scenario, gate: Gate) -> Iterator[str]:
     for row in sorted(gate.demand, key=lambda row: row.start) if not gate.counted else ():
         if end is not None and row.start > end:
             begin, behind = (clock_text(float(study.start + time)) for time in (end, row.start))
-            yield f"gates.{gate.name}.demand: nobody comes from {begin} to {behind}, a hole between its rows; is a row missing?"
+            yield f"gates.{gate.name}.demand: no vehicle comes from {begin} to {behind}, a hole between its rows; is a row missing?"
         end = max(row.end, end or row.end)
 
 

@@ -102,7 +102,7 @@ class Parting:
         if not self.all_named:
             found.append(Branch(f"{self.name}-lanes{len(found)}", [], self.lane.lanes, found[-1].length))
         if len(found) == 1:
-            raise Problem(f"{self.pockets[0].place}: all who come by {self.name} drive into this pocket, so it parts nobody; take it away")
+            raise Problem(f"{self.pockets[0].place}: all vehicles of {self.name} drive into this pocket, so it separates none; remove it")
         return found
 
     def _length(self, one: Pocket, most: Fraction) -> Fraction:

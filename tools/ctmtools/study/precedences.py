@@ -88,7 +88,7 @@ def _check_others(table: Entries, found: Crossing, way: Movement, others: list[M
 def _check_keys(table: Entries, found: Crossing) -> None:
     """Refuses what is of signs where there is a signal, and the other way round."""
     signal = found.cycle is not None
-    why = "is of junctions without a signal; in a permitted green nobody waits in a median" if signal else \
+    why = "is of junctions without a signal; in a permitted green no vehicle waits in a median" if signal else \
         "are of permitted greens, and this junction has no signal"
     for name in OF_SIGNS if signal else OF_GREENS:
         if table.has(name):
@@ -168,8 +168,8 @@ def check_precedence(found: Crossing) -> None:
     for i, phase in enumerate(found.phases, 1):
         strange = next((way for way in phase.permitted if way not in ways), None)
         if strange:
-            raise Problem(f"{found.place}.phases[{i}].permitted: {movement_name(found, strange)} gives way to nobody; `yields` says to "
-                          "whom it does")
+            raise Problem(f"{found.place}.phases[{i}].permitted: {movement_name(found, strange)} gives way to none; an entry of "
+                          "`yields` says to which it does")
 
 
 def precedence_at_merge(table: Entries, merge: Merge) -> tuple[str | None, Gaps | None]:

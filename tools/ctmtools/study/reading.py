@@ -377,7 +377,7 @@ def _speed_limit(table: Entries, times: Times) -> SpeedLimit:
     limit = SpeedLimit(road_part(table, times), table.take("speed", speed))
     table.done()
     if limit.speed == 0:
-        raise Problem(f"{table.key('speed')}: must be above 0; a closure lets nobody through")
+        raise Problem(f"{table.key('speed')}: must be above 0; a closure lets no vehicle through")
     return limit
 
 

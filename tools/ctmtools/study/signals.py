@@ -79,8 +79,8 @@ class Signals:
             if ups == [cell]:
                 return downs[0]
         self.remarks[f"{signal.place} has a start or an end, so in its red nothing comes into the cell before the stop "
-                     "line either: its queue stands from the next cell upstream on, and where a green clears it, who "
-                     "has waited waits up to a step longer"] = None
+                     "line either: its queue stands from the next cell upstream on, and where a green clears it, a "
+                     "vehicle that has waited may wait a step longer"] = None
         return cell
 
 

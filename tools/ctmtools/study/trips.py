@@ -98,7 +98,7 @@ def _route(table: Entries, times: Times) -> Route:
                   table.take("share", _shares(times), []), table.place)
     table.done()
     if not route.roads:
-        raise Problem(f"{table.key('roads')}: expected the roads of the way, found none")
+        raise Problem(f"{table.key('roads')}: expected the roads of the route, found none")
     return route
 
 

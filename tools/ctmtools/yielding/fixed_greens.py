@@ -76,7 +76,7 @@ def lost_at_random(report: Report) -> dict[str, float] | None:
     if not report.recorded or report.network is None or report.units.at_random.interval is None:
         return None
     return {"at fixed greens": sum(one.hours for one in waits_at_greens(report)),
-            "by those who give way": sum(one.hours for one in report.units.at_random.giving_way)}
+            "where streams give way": sum(one.hours for one in report.units.at_random.giving_way)}
 
 
 def _waits(group: LaneGroup, report: Report, bounds: Numbers, capacities: Numbers) -> GreenWaits:

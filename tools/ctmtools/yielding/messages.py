@@ -24,18 +24,18 @@ def passing_lines(ones: Sequence[Yielding], waits: Sequence[Loss], moves: Sequen
     """Remarks on what passes of each and what is lost by coming at random, and warnings of those whose limits still move."""
     lines = [_passes(one) + _waits(each) for one, each in zip(ones[:MOST_TOLD], waits)]
     if len(ones) > MOST_TOLD:
-        lines.append(f"and {len(ones) - MOST_TOLD} more who give way")
+        lines.append(f"and {len(ones) - MOST_TOLD} more that give way")
     hours = sum(each.hours for each in waits)
     if hours:
         lines.append(f"what is lost by coming at random is {hours:,.2f} vehicle-hours by the Highway Capacity Manual where no queue "
                      "stands, and no part of the run's delay, in which vehicles come evenly")
     if max(moves) <= least:
-        lines.append(f"what passes by giving way is settled after {runs} runs: no limit would move by more than {least:.0%}")
+        lines.append(f"what passes by giving way is settled after {runs} runs: no capacity would change by more than {least:.0%}")
     moving = sorted(((one.of.name, moved) for one, moved in zip(ones, moves) if moved > least), key=lambda one: -round(one[1], 3))
-    warnings = [f"{name}: after {runs} runs what passes isn't settled; a limit would still move by {moved:.1%}"
+    warnings = [f"{name}: after {runs} runs what passes isn't settled; a capacity would still change by {moved:.1%}"
                 for name, moved in moving[:MOST_TOLD]]
     if len(moving) > MOST_TOLD:
-        warnings.append(f"and {len(moving) - MOST_TOLD} more whose limits still move, by less")
+        warnings.append(f"and {len(moving) - MOST_TOLD} more whose capacities still change, by less")
     return lines, warnings
 
 
@@ -94,7 +94,7 @@ def green_rows(report: Report) -> tuple[str, list[tuple[str, ...]]]:
     if not any(one.vehicles for one in greens):
         return "", []
     hours, others = sum(one.hours for one in greens), sum(one.hours for one in report.units.at_random.giving_way)
-    more = f", with those who give way {hours + others:,.2f}" if others else ""
+    more = f", {hours + others:,.2f} with movements that give way" if others else ""
     return f"{hours:,.2f} vehicle-hours{more}", [_row(one) for one in sorted(greens, key=lambda one: -one.hours)]
 
 

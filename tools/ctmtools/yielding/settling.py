@@ -50,7 +50,7 @@ class Settled:
     @property
     def doubt(self) -> str:
         """In a few words that limits still move, or an empty text."""
-        return "" if self.is_settled else f"who gives way isn't settled after {self.runs} runs, a limit moves by {self.moved:.1%}"
+        return "" if self.is_settled else f"what gaps let pass isn't settled after {self.runs} runs, a capacity changes by {self.moved:.1%}"
 
 
 def settled(study: Scenario, run: Run, done: Done | None = None, shares_follow: bool = False) -> Settled:
@@ -67,7 +67,7 @@ def settled(study: Scenario, run: Run, done: Done | None = None, shares_follow: 
         wanted = wanted_of(ones, by_width)
         moves = [one.move(rates) for one, rates in zip(ones, wanted)]
         if done:
-            done(1, f"limits move by {max(moves):.1%}" if runs > 1 else "without giving way")
+            done(1, f"capacities change by {max(moves):.1%}" if runs > 1 else "without giving way")
         if max(moves) <= LEAST_MOVE or runs == MOST_RUNS:
             break
         part = DAMPING if part == 1.0 else part / 2 if runs > 2 and max(moves) > SWINGS * before else part

@@ -1,7 +1,6 @@
 -- The numbers of a request that words ask for are within the ranges of their options.
-use Rattle.std.specs.Prelude.{Option, String, bytes_eq, codes, if◌then◌else◌, map, nat_le, option_and_then, option_map, string_bytes, ◌&&◌}
+use Rattle.std.specs.Prelude.{Option, bytes_eq, codes, if◌then◌else◌, nat_le, option_and_then, option_map, ◌&&◌}
 use Rattle.std.specs.Option.{option_map_or}
-use Rattle.std.specs.declared.alloc.Global.{Global}
 use Rattle.std.proofs.Common.{◌≡◌, ℕ, ◌≤◌, Bool, true, false, List, Some, None, refl, subst, arith}
 use Rattle.std.proofs.lemmas.Bool.{and_parts, leb-true}
 use Rattle.fixed_flow.specs.Spelling.{whole_of}
@@ -19,7 +18,6 @@ use Rattle.command_words.specs.declared.region_choice.RegionChoice.TheVariants.{
 use Rattle.command_words.specs.declared.request.Request.{Request}
 use Rattle.command_words.specs.declared.setting.Setting.{Setting}
 use Rattle.command_words.specs.declared.setting.Setting.TheVariants.{Regions, Cutting, Parts, Workers, Every, Shots, Until, Size, Seed}
-use Rattle.call_beginning.specs.Words.{requested}
 
 -- what was found is what is there
 same-some : {A : Type 0} (a b : A) → Some a ≡ Some b → a ≡ b
@@ -123,10 +121,10 @@ found-in_range found request same =
       seed = (number-holds mode.0 Seed 0 999_999_999 1 seed.0 found first-seed seed.1).1;
     })
 
-pub requested-in_range : (words : List (String Global)) (request : Request) → requested words ≡ Some request → IsInRange request
+pub request_of-in_range : (words : List (List ℕ)) (request : Request) → request_of words ≡ Some request → IsInRange request
 unfolding request_of
-requested-in_range words request = by (is_empty (fault_of command (map string_bytes words)))
+request_of-in_range words request = by (is_empty (fault_of command words))
   where
-    by : (faultless : Bool) → (if faultless then request_in (matches_of command (map string_bytes words)) else None) ≡ Some request → IsInRange request
-    by true same = found-in_range (matches_of command (map string_bytes words)) request same
+    by : (faultless : Bool) → (if faultless then request_in (matches_of command words) else None) ≡ Some request → IsInRange request
+    by true same = found-in_range (matches_of command words) request same
     by false same = none-some request same

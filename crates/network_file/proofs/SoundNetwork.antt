@@ -1,10 +1,9 @@
 -- The network that any bytes are is sound.
-use Rattle.std.proofs.Common.{ℕ, ◌≡◌, ◌+◌, ◌==◌, ◌&&◌, Bool, true, false, List, [], ◌∷◌, Ok, Err, Some, None, ap, arith, leb-true, length, ltb-true, subst, sym, ◌∙◌}
-use Rattle.std.specs.Prelude.{Result, bytes_eq, codes, if◌then◌else◌, nat_le, nat_lt, ok_or}
+use Rattle.std.proofs.Common.{ℕ, ◌≡◌, ◌+◌, ◌==◌, ◌&&◌, Bool, true, false, List, [], ◌∷◌, Ok, Some, None, arith, leb-true, length, ltb-true, subst, sym, ◌∙◌}
+use Rattle.std.specs.Prelude.{bytes_eq, codes, if◌then◌else◌, nat_le, nat_lt, ok_or}
 use Rattle.fixed_flow.specs.Limits.{most_parts}
 use Rattle.record_fields.specs.Fields.{field}
 use Rattle.record_fields.specs.FileRecords.{file_records_of}
-use Rattle.record_fields.specs.declared.code.Code.{Code}
 use Rattle.record_fields.specs.declared.code.Code.TheVariants.{NoCells, NoHeader, NoSteps, TooMuch}
 use Rattle.record_fields.proofs.CheckLemmas.{bind-ok, must-ok, ok_or-some}
 use Rattle.network_file.specs.Draft.{Draft, empty_draft}
@@ -12,11 +11,10 @@ use Rattle.network_file.specs.Formats.{format_of}
 use Rattle.network_file.specs.Network.{Network, load_of}
 use Rattle.network_file.specs.Reading.{at_place, cutting_of_draft, network_in_all, network_of, read_file, read_records}
 use Rattle.network_file.specs.Sound.{IsFormat, IsNetwork, IsSoundDraft}
-use Rattle.network_file.specs.Taking.{take_record}
-use Rattle.network_file.proofs.ReadingLemmas.{read_records-none}
-use Rattle.call_beginning.proofs.SoundCutting.{draft-cutting, draft-uncut}
-use Rattle.call_beginning.proofs.SoundDrafts.{empty_draft-sound}
-use Rattle.call_beginning.proofs.SoundRecords.{take_record-sound}
+use Rattle.network_file.proofs.ReadingLemmas.{at_place-ok, read_records-first, read_records-none}
+use Rattle.network_file.proofs.SoundCutting.{draft-cutting, draft-uncut}
+use Rattle.network_file.proofs.SoundDrafts.{empty_draft-sound}
+use Rattle.network_file.proofs.SoundRecords.{take_record-sound}
 
 -- a header names a format that is there
 format_of-known : (header : List (List ℕ)) (format : ℕ) → format_of header ≡ Some format → IsFormat format
@@ -58,18 +56,6 @@ network_in_all-sound draft net sound made =
       no_regions = λ first. draft-uncut draft regions (sound.no_regions first) is_regions;
       load = leb-true (load_of draft.cells draft.plan steps) most_parts load;
     })
-
-at_place-ok : {A : Type 0} (place : ℕ) (m : Result A Code) (a : A) → at_place place m ≡ Ok a → m ≡ Ok a
-at_place-ok place (Ok a) b made = ap Ok (cc made)
-at_place-ok place (Err code) b made = cc made
-
--- a record that was taken, and what follows it
-read_records-first : (place : ℕ) (draft : Draft) (net : Network) (fields : List (List ℕ)) (rest : List (List (List ℕ))) → read_records place draft (fields ∷ rest) ≡ Ok net
-    → (more : Draft) × ((take_record draft fields ≡ Ok more) × (read_records (place + 1) more rest ≡ Ok net))
-unfolding read_records
-read_records-first place draft net fields rest read =
-    let (more, (taken, read_rest)) = bind-ok (at_place place (take_record draft fields)) (λ more. read_records (place + 1) more rest) net read in
-    (more, (at_place-ok place (take_record draft fields) more taken, read_rest))
 
 read_records-sound : (place : ℕ) (draft : Draft) (net : Network) (rows : List (List (List ℕ))) → IsSoundDraft draft → read_records place draft rows ≡ Ok net → IsNetwork net
 read_records-sound place draft net [] sound read =

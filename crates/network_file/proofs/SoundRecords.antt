@@ -27,8 +27,8 @@ use Rattle.network_file.specs.Taking.{take_demand, take_diverge, take_exit, take
 use Rattle.network_file.specs.declared.cell.Kind.TheVariants as kind
 use Rattle.network_file.specs.declared.connector.Connector.TheVariants as connector
 use Rattle.network_file.proofs.ConnectorLemmas.{FitsConnector-diverge, FitsConnector-link, FitsConnector-merge}
-use Rattle.call_beginning.proofs.SoundDrafts.{draft-add_cell, draft-add_connector, draft-add_record, draft-add_region, draft-add_steps}
-use Rattle.call_beginning.proofs.SoundFields.{amount_within-bound, downstream-receives, known_cell-there, new_name-fresh, none-is, range_within-bounds, ratio-bounds, upstream-sends, weights-bounds, whole_within-bounds}
+use Rattle.network_file.proofs.SoundDrafts.{draft-add_cell, draft-add_connector, draft-add_record, draft-add_region, draft-add_steps}
+use Rattle.network_file.proofs.SoundFields.{amount_within-bound, downstream-receives, known_cell-there, new_name-fresh, none-is, range_within-bounds, ratio-bounds, upstream-sends, weights-bounds, whole_within-bounds}
 
 take_steps-sound : (draft more : Draft) (fields : List (List ℕ)) → IsSoundDraft draft → take_steps draft fields ≡ Ok more → IsSoundDraft more
 unfolding take_steps
