@@ -58,7 +58,7 @@ def test_the_aims_of_the_map_stand_beside_what_there_is():
     lines = sum(len(path.read_text().splitlines()) for folder in ("specs", "proofs") for path in TOP.glob(f"crates/*/{folder}/**/*.antt"))
     assert f"took {last} processor-minutes at" in MAP
     assert f"Aims: 110 processor-minutes ({last} on a busy machine" in MAP and f"; {round(seconds / 60) + minutes} by these seconds)" in MAP
-    assert f", 170 edits ({edits})," in MAP and f"lines of specs and proofs ({round(lines, -3):,})" in MAP
+    assert f" 170 edits ({edits})," in MAP and f"lines of specs and proofs ({round(lines, -3):,})" in MAP
 
 
 @pytest.mark.parametrize("page, text, section", [
