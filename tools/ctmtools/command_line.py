@@ -86,7 +86,7 @@ class Commands(click.Group):
 
 
 def show_version(context: click.Context, _: click.Parameter, asked: bool) -> None:
-    """Tells the version of the tools, and which program they call."""
+    """Prints the version of the tools, and which program they call."""
     if asked and not context.resilient_parsing:
         program = found_program()
         tell(f"{PROGRAM} {__version__}, over {program.path}, {program.by}")
@@ -126,14 +126,14 @@ def main(words: Sequence[str] | None = None) -> NoReturn:
 
 
 class LastWord:
-    """The line of a command that was interrupted, which is told once."""
+    """The line of a command that was interrupted, which is printed once."""
 
     def __init__(self) -> None:
         self.told = False
         self.telling = threading.Lock()  # the thread that ends the process asks for it too
 
     def __call__(self, line: str = "interrupted") -> None:
-        """Tells the line, in the place of what a terminal shows in its last one."""
+        """Prints the line, in the place of what a terminal shows in its last one."""
         with self.telling:
             if not self.told:
                 self.told = True

@@ -8,7 +8,7 @@ from .visible import visible
 
 
 class Problem(Exception):
-    """A fault of what the user gave, told in one line; a command ends with it and with status 2."""
+    """A fault of what the user gave, reported in one line; a command ends with it and with status 2."""
 
     def __str__(self) -> str:
         """The line, in which names are text."""

@@ -87,7 +87,7 @@ class OfWays:
 
 @dataclass(frozen=True)
 class LaneGroup:
-    """Who share lanes at a stop line, its cell: the cells of those of whom it tells and of all who come to these lanes.
+    """Who share lanes at a stop line, its cell: the cells of those of whom it speaks and of all who come to these lanes.
 
     `saturation` is what its lanes pass in green, in vehicles/h.
     """

@@ -11,7 +11,7 @@ from ..report.summary import number_text
 from ..texts.text_table import table
 from .ways_file import WayRow, ways_of_report
 
-MOST_PAIRS = 10  # so many pairs are told, those with the greatest changes
+MOST_PAIRS = 10  # so many pairs are printed, those with the greatest changes
 LEAST = 0.005  # minutes; a pair whose mean changes by less neither gains nor loses
 
 
@@ -33,7 +33,7 @@ def compare_pairs(first: Sequence[WayRow], second: Sequence[WayRow]) -> pandas.D
 
 
 def pair_changes(first: Report, second: Report) -> Iterator[str]:
-    """What is told of the pairs of two reports beside which ways stand; nothing where they don't."""
+    """What is reported of the pairs of two reports beside which ways stand; nothing where they don't."""
     one, two = ways_of_report(first), ways_of_report(second)
     if one is None or two is None:
         return

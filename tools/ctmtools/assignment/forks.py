@@ -111,7 +111,7 @@ def parts_of(fork: Fork, counts: Numbers, ahead: Flags) -> Numbers:
 
 
 def _steadied(parts: Numbers) -> Numbers:
-    """Parts of spans that follow each other, which stay as they are until they differ by more than the curves tell."""
+    """Parts of spans that follow each other, which stay as they are until they differ by more than the curves show."""
     if not numpy.abs(numpy.diff(parts, axis=1)).any():
         return parts
     steady = parts.copy()

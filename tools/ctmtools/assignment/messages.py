@@ -1,4 +1,4 @@
-"""What is told at the end of an assignment: why it didn't settle, what rounding did, and the ways of the pairs."""
+"""What is printed at the end of an assignment: why it didn't settle, what rounding did, and the ways of the pairs."""
 
 from __future__ import annotations
 

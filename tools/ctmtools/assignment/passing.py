@@ -1,8 +1,8 @@
-"""When who enters a leg leaves it: at free flow, by the speed limits in force, or by the cumulative curves of a run.
+"""When a driver who enters a leg leaves it: at free flow, by the speed limits in force, or by the cumulative curves of a run.
 
-A chain is left in the order in which it was entered: who enters it as the N-th leaves it when N have left. So two curves
-tell all of it, that of who comes to its first cell, behind those who stand in the chain at the start, and that of who leaves
-its last one.
+A chain is left in the order in which it was entered: the N-th driver to enter it leaves it when N have left. So two curves
+say all of it: that of drivers who come to its first cell, behind those who stand in the chain at the start, and that of drivers
+who leave its last one.
 """
 
 from __future__ import annotations
@@ -18,11 +18,11 @@ from ..texts.amounts import PARTS
 from .legs import Legs
 
 LEFT_BEHIND = 0.01  # vehicles; the rounding of a diverge leaves up to 0.002 in the cell before it
-BEYOND = 3  # so many times the steps of the run go the curves that are told; behind the run travel times stay
+BEYOND = 3  # so many times the steps of the run go the curves that are given; behind the run travel times stay
 CLOSED = 0.02  # a capacity of less than this part of the cell's own lets nobody through
 MOMENTS = 800  # of a grid, about
 LEAST = 1e-9  # of a span of the grid, which rounding may leave of nothing
-SPAN = 20  # of so many parts of the run the last one tells how fast a queue that is left at the end goes on
+SPAN = 20  # of so many parts of the run the last one shows how fast a queue that is left at the end goes on
 
 
 class Passing:

@@ -62,7 +62,7 @@ def places_of(source: str | Path, output: str | Path | None = None) -> Places:
 
 @dataclass(frozen=True)
 class Written:
-    """What was written: the last round as the run of the study has it, its report, the ways, and what is told of those who give way."""
+    """What was written: the last round as the run of the study has it, its report, the ways, and what is reported of those who give way."""
 
     last: Round
     report: Report

@@ -20,7 +20,7 @@ from ..report.queues import SLOW
 
 Names = str | Path | Iterable[str | Path]
 LEAST = 8  # rows
-LEAST_SPREAD = 0.2  # of the way from the top to the jam density, over which queued rows have to lie to tell its slope
+LEAST_SPREAD = 0.2  # of the way from the top to the jam density, over which queued rows have to lie to give its slope
 
 
 @dataclass(frozen=True)
@@ -42,7 +42,7 @@ class Triangle:
 
     @property
     def warning(self) -> str | None:
-        """A line that tells that the rows of queued traffic lie too near together for the branch that they are on."""
+        """A line that says that the rows of queued traffic lie too near together for the branch that they are on."""
         if self.high - self.low >= LEAST_SPREAD * (self.jam - self.capacity / self.speed):
             return None
         return (f"warning: most rows of queued traffic lie between {self.low:.0f} and {self.high:.0f} vehicles/km, too near "

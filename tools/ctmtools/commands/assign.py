@@ -116,7 +116,7 @@ def _parts(text: str | None) -> list[float | None]:
 
 
 def _go(assignment: Assignment, gap: float, iterations: int, rounds: list[Round]) -> None:
-    """Goes from round to round, each of which is added, with a bar on a terminal, and tells what each came to."""
+    """Goes from round to round, each of which is added, with a bar on a terminal, and prints what each came to."""
     with bar(iterations, "rounds at most") as shown:
         for each in assignment.rounds(gap, iterations):
             rounds.append(each)
@@ -128,7 +128,7 @@ def _go(assignment: Assignment, gap: float, iterations: int, rounds: list[Round]
 
 
 def _tell(assignment: Assignment, rounds: Sequence[Round], gap: float, ways: Sequence[Any], passing: Sequence[str]) -> None:
-    """Tells how it ended: the gap, what rounding did, what passes of those who give way, and the ways of the pairs."""
+    """Prints how it ended: the gap, what rounding did, what passes of those who give way, and the ways of the pairs."""
     found = measures(assignment, rounds[-1])
     tell("", f"Vehicles  {number_text(found['left_vehicles'])} left, {number_text(found['inside_vehicles'])} are still "
          "inside")
@@ -158,7 +158,7 @@ def _guard_table(path: Path) -> None:
 
 
 def _tell_table(tasks: Sequence[AssignTask], done: Iterator[tuple[int, dict[str, Any]]], output: str | None) -> None:
-    """Tells a row for each share of informed drivers."""
+    """Prints a row for each share of informed drivers."""
     if output is not None:
         _guard_table(Path(output))
     found = dict(done)

@@ -35,8 +35,8 @@ Where routes that `assign` wrote stand beside both, it prints by pair which driv
 
 With --plot both reports need records, and the cells of the route are those that both have."""
 
-LEAST_WAIT = 0.05  # s of control delay, by which an approach has to differ to be told
-MOST_ROADS = 6  # so many roads are told with their travel time
+LEAST_WAIT = 0.05  # s of control delay, by which an approach has to differ to be printed
+MOST_ROADS = 6  # so many roads are printed with their travel time
 
 
 @click.command(epilog=EPILOG)

@@ -96,7 +96,7 @@ def _do(drawn_runs: DrawnRuns, jobs: int | None, address: str | None) -> None:
 
 
 def _tell(results: Draws, folder: Path, is_narrow: bool) -> None:
-    """Prints what the draws tell, and writes the tables and the picture."""
+    """Prints what the draws show, and writes the tables and the picture."""
     write_results(results, folder)
     failed = results.rows[results.rows.error != ""]
     if len(failed):
@@ -115,7 +115,7 @@ def _tell(results: Draws, folder: Path, is_narrow: bool) -> None:
 
 
 def _lines(results: Draws, is_narrow: bool) -> Iterator[str]:
-    """What the draws tell, as lines."""
+    """What the draws show, as lines."""
     stopped = f", where the interval was narrow enough; {results.asked_for} were asked for" \
         if results.count < results.asked_for else ""
     random = ", arrivals at random" * results.arrivals

@@ -45,7 +45,7 @@ the merge; without a set point it is the occupancy at which the detector's cell 
 
 What was reached stands in NAME-metered.meter.json until the report is written: the same call goes on from there where it was
 ended."""
-MOST_PLACES = 6  # so many roads and gates are told with their change of delay
+MOST_PLACES = 6  # so many roads and gates are printed with their change of delay
 
 
 @click.command(epilog=EPILOG)
@@ -112,7 +112,7 @@ def _meters(study: Scenario, ramp: str | None, figures: dict[str, Any]) -> list[
 
 
 def _page(done: MeteredRun, value_of_time: float | None) -> Iterator[str]:
-    """What is told of a metered run."""
+    """What is reported of a metered run."""
     without, report = done.without, done.report
     yield f"{without.title}: ramp meters with feedback, ALINEA"
     yield ""

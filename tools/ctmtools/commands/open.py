@@ -110,7 +110,7 @@ def _free(stem: str) -> Path:
 
 
 def _keep_unsaved(path: Path, text: str) -> None:
-    """Keeps changes that weren't saved beside the study, and tells where."""
+    """Keeps changes that weren't saved beside the study, and prints where."""
     kept = next(one for i in range(1, 10_000) if not (one := path.with_name(f"{path.stem}.unsaved-{i}.toml")).exists())
     try:
         write(kept, text, lasting=True)

@@ -41,7 +41,7 @@ def on_picture(command: Command) -> Command:
 
 
 def draw(kind: str, report: str, output: str | None, units: str | None, network: str | None, **options: Any) -> None:
-    """Draws the picture of a kind into its file, and tells that file."""
+    """Draws the picture of a kind into its file, and prints that file's name."""
     from ..plots.figure import save, target
     from ..plots.pictures import picture
 

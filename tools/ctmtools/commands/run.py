@@ -100,7 +100,7 @@ def _opened(source: str, kept: Path) -> Prepared:
 
 
 def _drawn(prepared: Prepared, seeds: int, report: Report) -> list[str]:
-    """What runs with arrivals at random tell."""
+    """What runs with arrivals at random show."""
     from ..uncertainty.seeds import seed_lines, seeded  # here, so that other runs don't load pandas
 
     with bar(seeds, "draws of arrivals") as done:
@@ -109,7 +109,7 @@ def _drawn(prepared: Prepared, seeds: int, report: Report) -> list[str]:
 
 
 def _in_stretches(target: Path, prepared: Prepared, stretch: int, begun: Moment | None, workers: int | None) -> Report:
-    """Runs in stretches, and tells from where it goes on."""
+    """Runs in stretches, and prints from where it goes on."""
     clock, path = prepared.units.clock, kept_path(target)
     reached = begun.last if begun else 0
     if begun:

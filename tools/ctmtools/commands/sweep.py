@@ -131,7 +131,7 @@ def rounded_in_all(frame: pandas.DataFrame) -> str:
 
 
 def rest_lines(more: int, same: str) -> list[str]:
-    """What stands below the rows that are told: how many more there are, and what was rounded in all."""
+    """What stands below the rows that are printed: how many more there are, and what was rounded in all."""
     return [f"  and {more} more rows"] * (more > 0) + [f"  Rounded in each of them: {same}"] * bool(same)
 
 

@@ -17,7 +17,7 @@ from ..program.interrupt import STATUS
 from ..visible import visible
 
 PROGRAM = "ctm-tools"
-TRACEBACK = "CTM_TRACEBACK"  # the variable with which a fault of the tools is told by its traceback too
+TRACEBACK = "CTM_TRACEBACK"  # the variable with which a fault of the tools is printed with its traceback
 BAD_INPUT, FAILED = 2, 1
 NOTHING = "stopped; nothing is kept"  # where Ctrl-C ends a long command of which nothing is
 HERE = Path(__file__).resolve().parents[1]
@@ -70,7 +70,7 @@ def say(line: str, begin: str = "") -> None:
 
 
 def answer(error: Exception) -> NoReturn:
-    """Ends with the line that tells an error, and where it is a fault of the tools with its traceback where that is asked for."""
+    """Ends with the line that reports an error, and where it is a fault of the tools with its traceback where that is asked for."""
     if isinstance(error, OSError) and _is_of_output(error):
         _leave(sys.stdout)  # Python would try again at its end
         if isinstance(error, BrokenPipeError):  # who reads has what is wanted
@@ -93,7 +93,7 @@ def _is_of_output(error: OSError) -> bool:
 
 
 def told(error: Exception) -> tuple[str, int]:
-    """The line that tells an error, and the status with which a command ends."""
+    """The line that reports an error, and the status with which a command ends."""
     if isinstance(error, click.exceptions.Abort):
         return "interrupted", STATUS
     if isinstance(error, click.ClickException):

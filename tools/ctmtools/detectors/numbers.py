@@ -46,7 +46,7 @@ def by_text(column: pandas.Series, read: Callable[[str, str], Value], key: Calla
     It is None where a text is nowhere, or is blank and blanks aren't read.
 
     `read` takes a text and its key, and `key` makes one of a line. Of several texts that can't be read the first in the file is
-    told.
+    reported.
     """
     codes, texts = column.cat.codes.to_numpy(), list(column.cat.categories)
     places = numpy.full(len(texts), -1)

@@ -21,11 +21,11 @@ from ..texts.cells import unguarded
 from ..texts.text_table import first_few
 from ..visible import visible
 
-SEPARATORS = (";", "\t", ",")  # those that a first line tells by itself, of two the first
+SEPARATORS = (";", "\t", ",")  # those that a first line shows by itself, of two the first
 MOST_NAMED = 6  # days or columns that a message names
 DATE = re.compile(r"[0-9]{1,4}[-/.][0-9]{1,2}[-/.][0-9]{1,4}")
 ZIP = b"PK\x03\x04"
-LOOKED_AT = 4096  # bytes at the start of a file, whose zeros tell UTF-16
+LOOKED_AT = 4096  # bytes at the start of a file, whose zeros show UTF-16
 
 
 @dataclass(frozen=True)
@@ -117,7 +117,7 @@ def _widths(plain: str, separator: str) -> Wholes:
 
 
 def named(names: Sequence[str]) -> str:
-    """Names of a header as a message tells them, the first of many."""
+    """Names of a header as a message has them, the first of many."""
     return first_few(names, MOST_NAMED)
 
 
@@ -127,7 +127,7 @@ def counted(stations: Sequence[str]) -> str:
 
 
 def named_days(days: Sequence[str]) -> str:
-    """Days as a message tells them: those that are dates; of other texts, which are content of the file, how many there are."""
+    """Days as a message has them: those that are dates; of other texts, which are content of the file, how many there are."""
     dates = [one for one in days if DATE.fullmatch(one)]
     others = len(days) - len(dates)
     return ", ".join(filter(None, [named(dates), f"{others} text{'s'[:others != 1]} that are no date" if others else ""]))

@@ -109,7 +109,7 @@ class _Spans:
         self.speeds = report.lengths * hour_of(report)
 
     def of(self, cell: str) -> Iterator[dict[str, Any]]:
-        """What is told of a cell in each span."""
+        """What is exported of a cell in each span."""
         report, place = self.report, self.report.place(cell)
         road = report.need_network().kinds[cell] == "road"
         for span, begin in enumerate(self.starts):

@@ -1,4 +1,4 @@
-"""Networks of other programs, and maps, as files of studies: what a call asks for, what is written, and what is told of it."""
+"""Networks of other programs, and maps, as files of studies: what a call asks for, what is written, and what is reported of it."""
 
 from __future__ import annotations
 
@@ -67,7 +67,7 @@ OSM = OsmOptions(step="2 s", start="06:00", until="1 h", after="30 min", trips=F
 
 @dataclass(frozen=True)
 class Imported:
-    """The study that was written, and the lines that tell what is in it and what isn't kept."""
+    """The study that was written, and the lines that say what is in it and what isn't kept."""
 
     path: Path
     lines: list[str]

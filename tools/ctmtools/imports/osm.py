@@ -253,7 +253,7 @@ def _by(way: Way, keys: Sequence[str]) -> str:
 
 
 def call(program: str, words: Sequence[str], source: str) -> str:
-    """What a program says as it works; where it fails, its own words are told of the source, the file that it is about."""
+    """What a program says as it works; where it fails, its own words are reported of the source, the file that it is about."""
     path = shutil.which(program)
     if path is None:
         raise Problem(f"{program}, which reads {source}, isn't installed: sudo apt-get install {PACKAGES[program]}")

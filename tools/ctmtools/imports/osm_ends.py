@@ -83,7 +83,7 @@ def metres(one: Point, two: Point) -> float:
 
 def drop_ways_to_nowhere(streets: Streets, ends: Ends) -> list[Place]:
     """Drops the streets that lie on no way from a gate to an exit, and those that no way joins to the map's edge or to most
-    others; gives what is told of them, a place for each way."""
+    others; gives what is reported of them, a place for each way."""
     graph = networkx.DiGraph(list(streets.ways))
     graph.add_nodes_from(streets.streets)
     causes = dict.fromkeys(streets.streets, "")

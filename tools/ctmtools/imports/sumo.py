@@ -65,7 +65,7 @@ def _locate(location: Location, found: Streets, place: str) -> None:
 
 
 def drop_idle(found: Streets) -> None:
-    """Leaves out the streets on which cars may not drive and nobody else does; tells which of the others are kept."""
+    """Leaves out the streets on which cars may not drive and nobody else does; says which of the others are kept."""
     driven = {street for trip in found.trips for street in trip.route}
     others = {name for name, street in found.streets.items() if CAR not in street.classes}
     for name in others - driven:

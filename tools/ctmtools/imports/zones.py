@@ -138,7 +138,7 @@ def _zones_of_nodes(found: Streets, nodes: dict[str, gmns_tables.Row]) -> Zones:
 def put_trips(found: Streets, zones: Zones, matrix: tuple[float, float, Sequence[Row]], path: str | Path, until: float) -> None:
     """Puts the trips of a matrix, until a time, among those of the streets, parted among those of their zones by weight.
 
-    Of two streets between which no way leads no trip is made; where that is so of all of a pair's, its vehicles are told.
+    Of two streets between which no way leads no trip is made; where that is so of all of a pair's, its vehicles are reported.
     """
     begin, end, rows = matrix
     coming = min(1.0, max(0.0, (until - begin) / (end - begin)))  # of the vehicles of each pair

@@ -38,7 +38,7 @@ def sweep(study: StudySource, vary: Vary, output: str | Path | None = None, jobs
 
 
 class DrawOptions(TypedDict, total=False):
-    """How many draws there are, of what, what is told of them, and where they run, as `ctm-tools draw` has it."""
+    """How many draws there are, of what, what is reported of them, and where they run, as `ctm-tools draw` has it."""
 
     runs: int
     seed: int

@@ -46,7 +46,7 @@ class Drawing:
             self.asked.clear()
             try:
                 await self._draw(self.session.text, self.session.version)
-            except Problem:  # which was told; the plans beside it are shown even so
+            except Problem:  # which was reported; the plans beside it are shown even so
                 await self._compare_plans()
 
     async def _draw(self, text: str, version: int) -> None:
@@ -68,7 +68,7 @@ class Drawing:
         await self._compare(base, result, version)
 
     async def _compare(self, base: Result | None, result: Result, version: int) -> None:
-        """Tells the difference of both, and the table of all plans."""
+        """Sends the difference of both, and the table of all plans."""
         await self.tell("line", {"kind": "line", "version": version,
                                   **await self._told(difference, self.against, base, result, True, version=version)})
         await self._compare_plans()
@@ -104,7 +104,7 @@ class Drawing:
         return None
 
     async def _told(self, work: Callable[..., Any], *words: Any, version: int) -> Any:
-        """What some work gives; a problem is told and raised."""
+        """What some work gives; a problem is reported and raised."""
         try:
             return await in_a_thread(work, *words)
         except Problem as problem:
@@ -113,7 +113,7 @@ class Drawing:
             raise
 
     async def tell(self, what: str, message: Message) -> None:
-        """Tells all pages something, of which those that come later get the last."""
+        """Sends all pages something, of which those that come later get the last."""
         self.last[what] = message
         await self.send(message)
 

@@ -1,4 +1,4 @@
-"""What a page asks for: changes of the study, undoing, saving, plans, and files; and the study as pages are told it."""
+"""What a page asks for: changes of the study, undoing, saving, plans, and files; and the study as it is sent to pages."""
 
 from __future__ import annotations
 
@@ -34,7 +34,7 @@ class Orders:
             "begin": lambda order: self.works.begin(str(order["name"])), "stop": lambda _: self.works.stop()}
 
     async def do(self, text: str) -> Order | None:
-        """Does what a page says, and gives what it is to be told of it."""
+        """Does what a page says, and gives what is to be sent to it."""
         try:
             order = json.loads(text)
             if order.get("do") == "write":
@@ -47,7 +47,7 @@ class Orders:
         return None
 
     def state(self) -> Order:
-        """The study as pages are told it: its text and fields, what can be undone, and how it stands to its file."""
+        """The study as it is sent to pages: its text and fields, what can be undone, and how it stands to its file."""
         session = self.session
         try:
             self._fields = fields_of(values_in(session.text))
@@ -74,7 +74,7 @@ class Orders:
         self.drawing.against, self.redraw = name, True
 
     async def _write(self, what: str) -> str:
-        """Writes the report with its network, or the page, beside the study, and tells where."""
+        """Writes the report with its network, or the page, beside the study, and says where."""
         result = await in_a_thread(self.drawing.results.of, self.session.text)
         if what == "report":
             return f"{await in_a_thread(write_report, result, self.session.path)} is written, with its network and units"

@@ -43,7 +43,7 @@ class Result:
 
     @property
     def told(self) -> list[str]:
-        """What `run` tells of the study before the results."""
+        """What `run` prints of the study before the results."""
         return self.prepared.told
 
     @cached_property

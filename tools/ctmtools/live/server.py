@@ -166,7 +166,7 @@ class Server:
         return web.Response(text=asset.text, content_type=asset.kind, charset="utf-8", headers={**HEADERS, **policy})
 
     async def _socket(self, request: web.Request) -> web.StreamResponse:
-        """A page's socket, over which it is told what there is, and says what is changed."""
+        """A page's socket, over which it gets what there is, and says what is changed."""
         page = web.WebSocketResponse(max_msg_size=MOST_MESSAGE, heartbeat=20)
         await page.prepare(request)
         self.pages.add(page)
@@ -184,7 +184,7 @@ class Server:
         return page
 
     async def _heed(self, page: web.WebSocketResponse, text: str) -> None:
-        """Does what a page says; what can't be done it alone is told, and all pages the study as it is then."""
+        """Does what a page says; what can't be done is reported to it alone, and all pages get the study as it is then."""
         before = self.session.version
         answer = await self.orders.do(text)
         if answer:
@@ -204,7 +204,7 @@ class Server:
             self._ending = asyncio.get_running_loop().call_later(self.idle, self.ended.set)
 
     async def _watch(self) -> None:
-        """Tells the pages when the file of the study was changed or taken away."""
+        """Notifies the pages when the file of the study was changed or taken away."""
         told = "same"
         while True:
             await asyncio.sleep(LOOK)

@@ -147,7 +147,7 @@ class Works:
             INTERRUPTS.groups.discard(process.pid)
 
     async def _followed(self, process: Process, order: dict[str, Any]) -> Outcome:
-        """Gives a process its order, and tells what it says until its outcome."""
+        """Gives a process its order, and hands on what it says until its outcome."""
         assert process.stdin and process.stdout
         process.stdin.write(json.dumps(order).encode())
         process.stdin.close()

@@ -153,7 +153,7 @@ def cluster(tasks: Sequence[Any], address: str, work: Work) -> Done:
 
 
 def _be_quiet() -> None:
-    """Has Dask write nothing of its own: what is wrong is told here, in one line."""
+    """Has Dask write nothing of its own: what is wrong is printed here, in one line."""
     for name in list(logging.root.manager.loggerDict):
         if name.partition(".")[0] == "distributed":
             logging.getLogger(name).setLevel(logging.CRITICAL)

@@ -76,7 +76,7 @@ class ActuatedSignals:
         self.point = self._point()
 
     def run(self, done: Callable[[int], object] | None = None) -> Built:
-        """The network with all its reds; `done` is told how many steps further it is."""
+        """The network with all its reds; `done` gets how many steps further it is."""
         reached = 0
         self._take_up()
         try:

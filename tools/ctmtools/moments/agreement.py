@@ -44,7 +44,7 @@ class Plan:
 
 @dataclass(frozen=True)
 class Difference:
-    """The first difference of two networks: from which step on, and in what, told with what the one and the other have."""
+    """The first difference of two networks: from which step on, and in what, with what the one and the other have."""
 
     step: int
     told: str

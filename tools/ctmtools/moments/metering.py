@@ -161,7 +161,7 @@ class Metering:
         self.seen: dict[str, float] = {}
         self.moment: Moment | None = None
         self.reached = self.times.start
-        # By which what was kept of another network or of other meters is told apart.
+        # By which what was kept of another network or of other meters is distinguished.
         self.mark = checksum(self.own + repr(list(gauges)).encode())
 
     @property

@@ -71,7 +71,7 @@ def read_moment(path: str) -> Moment:
 
 
 def moment_of(content: bytes, name: str) -> Moment:
-    """The moment that a saved text spells. Whether its rows fit its network the program tells."""
+    """The moment that a saved text spells. Whether its rows fit its network the program finds out."""
     head, behind, network = content.partition(b"\nnet\n")
     first, *lines = head.split(b"\n")
     begun = FIRST.fullmatch(first)

@@ -19,7 +19,7 @@ from .records import FileRecord, line_of, read_records, text_of_line
 FAR_ABOVE = 2  # a demand is far above a gate's capacity from this many times it on
 RANGED = ("demand", "limit", "turn", "speed")  # the kinds of records that are of some steps
 SUPPOSED_STEP = 10  # seconds, in a warning's example where the step isn't known
-MOST_OF_A_KIND = 5  # of each kind of warning so many are told, and the others counted
+MOST_OF_A_KIND = 5  # of each kind of warning so many are printed, and the others counted
 MOST_SHOWN = 100  # letters of a line of the file
 
 
@@ -91,7 +91,7 @@ def _follower(network: Network, names: Sequence[str], number: int) -> str | None
 
 
 def _unreached(network: Network, naming: Naming) -> Iterator[Warning]:
-    """Roads and exits that no vehicle comes to; of cells that lead to each other the first alone is told."""
+    """Roads and exits that no vehicle comes to; of cells that lead to each other the first alone is reported."""
     reached = {gate for _, (gate, begin, _, amount) in network.numbered("demand") if amount > 0 and begin < network.steps}
     reached |= {cell for cell, row in network.of_cells.items() if row["kind"] == "gate" or row["first"] > 0}
     _spread(network.downs, reached)

@@ -1,4 +1,4 @@
-"""The draws of a page: how the delays of each plan are distributed, the sum of that, and what the draws tell of it."""
+"""The draws of a page: how the delays of each plan are distributed, the sum of that, and what the draws show of it."""
 
 from __future__ import annotations
 

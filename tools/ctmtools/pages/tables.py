@@ -24,7 +24,7 @@ SERVICE = {"demand": "demand, vehicles/h", "capacity": "capacity, vehicles/h", "
            "delay_random": "at random, s", "delay_each": "control delay, s", "level": "level of service", "queue": "mean queue, m",
            "longest_queue": "longest queue, m", "lanes": "lanes", "over_pocket": "beyond the pocket, vehicles"}
 MOST_COURSES = 6  # of approaches so many have their queue drawn over time
-MOST_CELLS = 10  # of those that differ so many are told
+MOST_CELLS = 10  # of those that differ so many are listed
 LEAST_CHANGE = 0.005  # of delay or of vehicles that left, from which on a cell is one that differs, as `compare` has it
 
 Figures = list[float | None]
@@ -144,7 +144,7 @@ def differing(reports: Sequence[Report], names: Sequence[str]) -> dict[str, Any]
 
 
 def unlike_lines(reports: Sequence[Report], names: Sequence[str]) -> list[str]:
-    """What `compare` tells of networks and times in which another report differs from the first."""
+    """What `compare` prints of networks and times in which another report differs from the first."""
     lines = []
     for report, name in zip(reports[1:], names[1:]):
         told = [*(f"Mind: {line}." for line in mismatches(reports[0], report)),
@@ -155,7 +155,7 @@ def unlike_lines(reports: Sequence[Report], names: Sequence[str]) -> list[str]:
 
 
 def greens_of(reports: Sequence[Report], names: Sequence[str]) -> list[dict[str, Any]]:
-    """What each report loses at fixed greens by coming at random, as `run` tells it: a head, and a row for each lane group."""
+    """What each report loses at fixed greens by coming at random, as `run` prints it: a head, and a row for each lane group."""
     lost = [(report, *green_rows(report)) for report in reports]
     told = [(name, hours, _called_groups(report, rows)) for name, (report, hours, rows) in zip(names, lost)]
     of = {name: f"{name}: " if len(names) > 1 else "" for name in names}

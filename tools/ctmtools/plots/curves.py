@@ -58,7 +58,7 @@ def _passed(report: Report, cell: str, kind: str) -> Numbers:
 
 
 def _telling(report: Report) -> list[str]:
-    """The cells that tell most: the first of the main route, the one with the most delay, and the last."""
+    """The cells that show most: the first of the main route, the one with the most delay, and the last."""
     route = main_route(report.need_network())
     middle = report.cells.wait[route[1:-1]]
     return list(dict.fromkeys([route[0], *([middle.idxmax()] if middle.max() > 0 else []), route[-1]]))

@@ -66,7 +66,7 @@ def _name_bars(axes: Axes, bars: list[tuple[float, str, float]]) -> None:
 
 
 def _name_roads(axes: Axes, middles: list[tuple[float, str]]) -> None:
-    """Names the roads below the names of the cells, in two rows, and tells how many found no room there."""
+    """Names the roads below the names of the cells, in two rows, and says how many found no room there."""
     axes.xaxis.labelpad = 2 * ROW + 4
     axes.figure.draw_without_rendering()
     boxes = [label.get_window_extent() for label in axes.get_xticklabels()]

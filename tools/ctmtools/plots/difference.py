@@ -19,7 +19,7 @@ from .figure import RISE, beside, drawing, figure, head, legend_below, moments, 
 from .roadside import draw_junctions
 from .time_space import outline
 
-MOST_OUTLINED = 12  # queues, each time that one comes; more of them are no longer told apart
+MOST_OUTLINED = 12  # queues, each time that one comes; more of them are no longer distinguished
 LOOKS = (((0, (2, 1.5)), "#555555"), ("-", "#111111"))
 
 

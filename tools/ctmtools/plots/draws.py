@@ -39,7 +39,7 @@ def draw(results: Draws) -> Figure:
 
 
 def _percentiles(axes: Axes) -> None:
-    """Lines at the percentiles that are told."""
+    """Lines at the percentiles that are reported."""
     axes.set_ylim(0, 1.02)
     axes.set_yticks([0, *(percent / 100 for percent in PERCENTS)])
     axes.yaxis.set_major_formatter(PERCENT)

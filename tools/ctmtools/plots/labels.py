@@ -1,4 +1,4 @@
-"""Names in a picture, placed so that none stands over another; those that find no room are left out and told."""
+"""Names in a picture, placed so that none stands over another; those that find no room are left out and counted."""
 
 from __future__ import annotations
 

@@ -10,8 +10,8 @@ from ..problem import Problem
 from .reading import Report
 from .travel import road_times
 
-LEAST_WHOLE = 0.005  # what is less is told as 0, and nothing is told as a part of 0
-MOST_TIMES = 100  # what rises to more than so many times and one had next to none before, so how many times tells nothing
+LEAST_WHOLE = 0.005  # what is less is printed as 0, and nothing is printed as a part of 0
+MOST_TIMES = 100  # what rises to more than so many times and one had next to none before, so how many times says nothing
 
 
 def compare(first: Report, second: Report) -> pandas.DataFrame:
@@ -75,7 +75,7 @@ def side_by_side(reports: Mapping[str, Report], value_of_time: float | None = No
 
 
 def part_of(rise: float, first: float) -> float:
-    """A rise as a part of what was first; lacking where that is told as 0, or is next to nothing beside the rise."""
+    """A rise as a part of what was first; lacking where that is printed as 0, or is next to nothing beside the rise."""
     return rise / first if first >= LEAST_WHOLE and rise <= MOST_TIMES * first else float("nan")
 
 

@@ -16,7 +16,7 @@ from .reading import Report
 from .summary import number_text, where
 
 FULL, FREE = 0.99, 0.9  # a cell passes all that it may from the one part on, and has room below the other
-LEAST_PART = 0.05  # of the delay of a run, below which what is waited isn't told
+LEAST_PART = 0.05  # of the delay of a run, below which what is waited isn't reported
 MOST_TOLD = 3
 
 

@@ -41,7 +41,7 @@ class Queue:
     `start`, `end` and `reached` are steps; `end` is None where the queue still stands at the last step. `reach` is in
     km where lengths are known, else in cells; gates count nothing. `delay` is in vehicle-steps, `most` in vehicles, and `most_at` is
     when so many first wait; where a speed limit holds both are beyond driving at it.
-    `spells` tells how often it came, as at a signal in each cycle. `reach` is that of the cells to which it grew from its
+    `spells` says how often it came, as at a signal in each cycle. `reach` is that of the cells to which it grew from its
     origin, and `longest_reach` that from any of its origins through what stood there before and what it touched.
     """
 

@@ -57,7 +57,7 @@ class Records:
 
 
 class TextRecords(Records):
-    """The records in the lines `at,t,name,n,gone` of a report, between two places of its text. A fault in them is told when they are read."""
+    """The records in the lines `at,t,name,n,gone` of a report, between two places of its text. A fault in them is reported when they are read."""
 
     def __init__(self, content: bytes, begin: int, end: int, names: Sequence[str], report: str) -> None:
         self.content, self.begin, self.end, self.names, self.report = content, begin, end, names, report

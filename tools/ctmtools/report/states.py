@@ -79,7 +79,7 @@ def queues_of(report: Report) -> pandas.DataFrame:
 
     `cell`, `road` and `km` say where it `began`; `reach` is the way from there back to the upstream end of the cell
     `farthest`, which first queued at `reached`; `most_waiting` are the vehicles that waited in it at `most_at`, for the first time;
-    `cleared` is lacking where it still stands at the end; `spells` tells how often it came, as at a signal in each
+    `cleared` is lacking where it still stands at the end; `spells` says how often it came, as at a signal in each
     cycle; `longest_reach` is that of all parts that joined it, `waiting_upstream` the vehicles that waited in a gate behind it,
     where it reached the upstream end of the model. Reach is in km, delay in vehicle-hours and times are
     datetimes, or in cells, vehicle-steps and steps where the units aren't known (`frame.attrs["units"]`).

@@ -11,10 +11,10 @@ from .travel import road_times
 from .upstream import Spill, spills
 
 MOST_QUEUES = 12  # so many queues have a row, the most costly
-MOST_JOINED = 3  # of the parts that joined a queue so many are told
-MOST_STANDING = 8  # of the queues that still stand at the end so many are told
-MOST_ROADS = 6  # so many roads are told with their travel time, those with the greatest delay
-HELD_UP = 1.005  # a road is told from so many times its travel time at free flow on
+MOST_JOINED = 3  # of the parts that joined a queue so many are printed
+MOST_STANDING = 8  # of the queues that still stand at the end so many are printed
+MOST_ROADS = 6  # so many roads are printed with their travel time, those with the greatest delay
+HELD_UP = 1.005  # a road is printed from so many times its travel time at free flow on
 
 
 def page(report: Report) -> Iterator[str]:

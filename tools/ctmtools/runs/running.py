@@ -35,7 +35,7 @@ PART = 20  # a run is estimated by its first part of so many
 
 
 class Calling(TypedDict, total=False):
-    """What a run of bytes is called with: another program, who is told news of it, and the network of the bytes, where it is read."""
+    """What a run of bytes is called with: another program, what gets news of it, and the network of the bytes, where it is read."""
 
     program: str | None
     news: News | None
@@ -102,7 +102,7 @@ class Prepared:
 
     @property
     def told(self) -> list[str]:
-        """The lines that are told before the results: what `build` tells of a study, or the warnings of a network."""
+        """The lines that are printed before the results: what `build` prints of a study, or the warnings of a network."""
         if self.built is not None:
             return list(built_lines(self.built))
         return [f"warning: {self.path}: {line}" for line in shortened(warnings_of(self.network, self.units))]
@@ -111,7 +111,7 @@ class Prepared:
 def opened(source: str | Path | Scenario, shown: Shown | None = None, kept: Path | None = None) -> Prepared:
     """The network of a study, which is built, or that of a file. Nothing is written.
 
-    What passes of those who give way, and greens that follow traffic, are worked out by runs; `shown` is told how many of them,
+    What passes of those who give way, and greens that follow traffic, are worked out by runs; `shown` gets how many of them,
     or steps, there may be, once. With a file what was reached of greens is kept there.
     """
     if isinstance(source, Scenario) or is_study(source):
@@ -177,7 +177,7 @@ def processors() -> int:
 def estimated(prepared: Prepared, every: int | None = None, workers: int | None = None) -> float | None:
     """About how many seconds a run of a prepared network takes, recorded each `every` steps; none of one of few steps.
 
-    The program itself tells nothing before its end, so its first steps are run before. What these take stands
+    The program itself says nothing before its end, so its first steps are run before. What these take stands
     for all, so a run in which traffic grows on empty roads takes longer.
     """
     steps = prepared.network.steps
@@ -187,7 +187,7 @@ def estimated(prepared: Prepared, every: int | None = None, workers: int | None 
         return None
     try:
         one, more = (_seconds(prepared, count, every, workers) for count in (1, first))
-    except Problem:  # the run itself tells it
+    except Problem:  # the run itself shows it
         return None
     return one + max(0.0, more - one) * (steps - 1) / (first - 1)
 

@@ -31,7 +31,7 @@ class Row:
 class Counted:
     """The rows of files, in rising order, whether they have dates, and whether their amounts are vehicles/h.
 
-    `interval` is that which the files themselves say, None where the rows do, and `lines` tell what was taken and left out.
+    `interval` is that which the files themselves say, None where the rows do, and `lines` say what was taken and left out.
     """
 
     name: str

@@ -133,7 +133,7 @@ def _usual(ways: Sequence[tuple[Fraction, str]]) -> Fraction:
 
 
 def _check_agreement(path: str, ways: Sequence[tuple[Fraction, str]], interval: Fraction, missing: str) -> None:
-    """Refuses rows that don't tell the interval: a way that isn't some of it, and where gaps are filled any doubt."""
+    """Refuses rows that don't show the interval: a way that isn't some of it, and where gaps are filled any doubt."""
     where = next(at for way, at in ways if way == interval)
     odd = next(((way, at) for way, at in ways if way % interval), None)
     if odd is None and missing != "error":

@@ -196,7 +196,7 @@ class Limits:
             yield record("limit", name, *last)
 
     def _overlapping(self, name: str) -> list[Span]:
-        """The spans of a cell in which several closures, openings or limits hold; red lights and gaps aren't told."""
+        """The spans of a cell in which several closures, openings or limits hold; red lights and gaps aren't reported."""
         works = [change for change in self.changes.get(name, ()) if not change.red and not change.by_gaps]
         return [span for span in spans(works) if len(span[2]) > 1]
 

@@ -1,4 +1,4 @@
-"""What is told of a built study before the results of its run."""
+"""What is reported of a built study before the results of its run."""
 
 from __future__ import annotations
 
@@ -11,7 +11,7 @@ from .plan import Scenario
 
 
 def built_lines(built: Built) -> Iterator[str]:
-    """What is told of a built study: what it is made of, what was rounded, and the warnings."""
+    """What is reported of a built study: what it is made of, what was rounded, and the warnings."""
     yield from built.remarks
     for note in built.rounding.differing:
         yield f"rounded: {note}"

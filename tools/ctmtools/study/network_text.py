@@ -91,7 +91,7 @@ class Builder:
         return Built(network, self._units(), self.rounding, remarks, warnings)
 
     def sections(self) -> list[tuple[str, list[Record]]]:
-        """The records behind that of the steps, sort by sort, each sort with the comment that tells its fields."""
+        """The records behind that of the steps, sort by sort, each sort with the comment that names its fields."""
         made: list[tuple[str, Iterable[Record]]] = [
             (headings("gate"), self._gates()), (headings("road"), self._roads()), (headings("exit"), self._exits()),
             (headings("link", "merge", "diverge", "turn"), [*self.junctions.connectors, *self.junctions.turns]),

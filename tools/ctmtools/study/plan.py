@@ -51,7 +51,7 @@ class Flow:
 class Gate:
     """Where vehicles come in: the road that it leads into, its demand, its capacity in vehicles/h where it is said.
 
-    Where the demand is `counted` its gaps are told with the counts.
+    Where the demand is `counted` its gaps are reported with the counts.
     """
 
     name: str

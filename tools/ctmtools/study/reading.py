@@ -87,7 +87,7 @@ def read_scenario(path: str | Path) -> Scenario:
 
 
 def scenario_of(values: dict[str, Any], path: Path) -> Scenario:
-    """The study of the values of a study file. Its path tells where files of counts stand."""
+    """The study of the values of a study file. Its path says where files of counts stand."""
     try:
         return _study(Entries(values, ""), path)
     except Problem as problem:
@@ -394,7 +394,7 @@ def _meter(table: Entries, times: Times) -> Meter:
 
 
 def slip_hint(content: bytes, message: str) -> str:
-    """A hint on a fault that the reader of TOML tells of a line, with the line, or an empty text."""
+    """A hint on a fault that the reader of TOML reports of a line, with the line, or an empty text."""
     if content.startswith(b"PK\x03\x04"):
         return "; this is an Excel workbook or another archive"
     found = LINE.search(message)

@@ -11,7 +11,7 @@ from ..texts.amounts import PARTS, rounded_parts
 from ..texts.quantities import HOUR
 from .plan import Scenario
 
-TOLD = Fraction(1, 1000)  # a difference is told from more than this part of the quantity on
+TOLD = Fraction(1, 1000)  # a difference is reported from more than this part of the quantity on
 
 
 class Scale:
@@ -74,7 +74,7 @@ class Rounded:
 
 
 def rounded_text(value: Fraction | float, beside: Fraction | float | None = None) -> str:
-    """A number in at most six digits, or in as many as tell it from the one beside it."""
+    """A number in at most six digits, or in as many as distinguish it from the one beside it."""
     digits = 6
     while beside is not None and value != beside and digits < 15 and \
             f"{float(value):.{digits}g}" == f"{float(beside):.{digits}g}":

@@ -44,7 +44,7 @@ class Table:
 
 
 class Vehicles:
-    """Reads the numbers of vehicles of a file, all of whose texts tell its decimal sign."""
+    """Reads the numbers of vehicles of a file, all of whose texts show its decimal sign."""
 
     def __init__(self, texts: Iterable[str]) -> None:
         from ..detectors.numbers import THOUSANDS  # here and below, so that who has no such file doesn't load pandas

@@ -42,7 +42,7 @@ def measures_of(report: Report) -> dict[str, float]:
     Delay is in vehicle-hours, the longest queue in km of whole cells, most waiting are the vehicles that waited at once
     in one queue, on roads and in gates, the travel time is the mean of the longest route from a gate, with the wait in
     it, of vehicles that have arrived. Waiting upstream are the most vehicles in a gate behind a queue that reached the upstream end
-    of the model, which is longer than told. The rest is in vehicles at the end.
+    of the model, which is longer than reported. The rest is in vehicles at the end.
     """
     travel_time = _travel_time(report)  # first, since it reads all records
     queues = queues_in(report)

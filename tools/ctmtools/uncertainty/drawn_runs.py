@@ -60,7 +60,7 @@ class DrawnRuns:
             plan.mark = fingerprint(self._task(plan, {}))
         self.kept = KeptValues(None if folder is None else folder / "runs.csv", self._mark(), COLUMNS)
         self.failures: dict[str, str] = {}
-        self.count = self.runs  # of the draws that are told; fewer where an interval was narrow enough
+        self.count = self.runs  # of the draws that are reported; fewer where an interval was narrow enough
 
     @property
     def missing(self) -> int:

@@ -1,4 +1,4 @@
-"""What draws tell, in words: the table of a plan's delay and travel times, its probabilities, and two plans compared."""
+"""What draws show, in words: the table of a plan's delay and travel times, its probabilities, and two plans compared."""
 
 from __future__ import annotations
 
@@ -8,7 +8,7 @@ from ..report.summary import number_text
 from .reliability import PERCENTS, Chance, Spread
 from .results import TIME, Draws
 
-MOST_WAYS = 12  # so many roads are told, those with the greatest planning time index
+MOST_WAYS = 12  # so many roads are printed, those with the greatest planning time index
 HEADS = ("as it stands", "mean", "95 % interval", *(f"{percent} %" for percent in PERCENTS), "planning time index", "buffer index")
 
 
@@ -24,7 +24,7 @@ def spread_rows(results: Draws, plan: str) -> Iterator[tuple[str, ...]]:
 
 
 def plan_lines(results: Draws, plan: str) -> Iterator[str]:
-    """What is told of a plan below its table: roads left out, vehicles inside at the end, and where and when queues stand."""
+    """What is printed of a plan below its table: roads left out, vehicles inside at the end, and where and when queues stand."""
     more = len(_times(results, plan)) - MOST_WAYS
     if more > 0:
         yield f"and {more} more roads in summary.csv"

@@ -1,4 +1,4 @@
-"""What draws tell: mean and percentiles of delay and travel times, their indices, probabilities, and two plans compared.
+"""What draws show: mean and percentiles of delay and travel times, their indices, probabilities, and two plans compared.
 
 The indices are those of the Federal Highway Administration's Travel Time Reliability, FHWA-HOP-06-070.
 """

@@ -1,4 +1,4 @@
-"""The results of draws: the rows of all runs, what they tell of each plan, and their files, from which a page reads them again."""
+"""The results of draws: the rows of all runs, what they show of each plan, and their files, from which a page reads them again."""
 
 from __future__ import annotations
 
@@ -29,7 +29,7 @@ TIME = "travel time "
 LEAST_INSIDE = 0.01  # vehicles; what rounding leaves is no vehicle
 FEWEST, MOST = 5, 40  # bars
 EACH = 10  # draws of a plan that a bar has in the mean, where neither bound holds
-DRAWS, BESIDE = "draws.csv", "draws.json"  # a row for each plan and draw, and what else is told of them
+DRAWS, BESIDE = "draws.csv", "draws.json"  # a row for each plan and draw, and what else is reported of them
 OF_DRAWS = "draws_checksum"
 TEXTS = ("plan", "rounded", "error")  # columns of `DRAWS` that are no numbers, whatever they look like
 

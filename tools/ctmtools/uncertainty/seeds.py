@@ -86,7 +86,7 @@ def _others(report: Report) -> pandas.DataFrame:
 
 
 def seed_lines(frame: pandas.DataFrame, report: Report) -> Iterator[str]:
-    """What draws tell beside the run with even arrivals: the delay of all, and a row for each approach, the greatest delay first."""
+    """What draws show beside the run with even arrivals: the delay of all, and a row for each approach, the greatest delay first."""
     even, delays = parts_of(report).set_index("road"), pandas.Series(frame.attrs["delays"])
     yield ""
     yield (f"Arrivals at random, {len(delays)} draws: {_mean(delays, 2)} vehicle-hours of delay, with even arrivals "

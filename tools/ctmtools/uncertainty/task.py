@@ -56,7 +56,7 @@ def measure(task: DrawTask) -> dict[str, Any]:
 
     Delay is in vehicle-hours, `last_queue_s` when the last queue cleared, in s after the start, or None without one;
     `delays` are those of each road and gate, `travel` and `free` the mean travel time of those who arrive and that at free flow,
-    in min, by road and route; `past` tells whether a queue stood before each place; `network` is the checksum of the network.
+    in min, by road and route; `past` says whether a queue stood before each place; `network` is the checksum of the network.
     """
     made = study(task.plan)
     first = _first(task) if task.first else None

@@ -49,7 +49,7 @@ class GreenWaits:
 
 
 def note_losses(study: Scenario, waits: Sequence[Loss], built: Built) -> None:
-    """Notes in the units of a network that was settled by what its reports tell what is lost by coming at random."""
+    """Notes in the units of a network that was settled by what its reports show what is lost by coming at random."""
     units = built.units
     units.at_random = AtRandom(round(study.yield_interval / study.step), lane_groups(study, built.network, units), list(waits))
 

@@ -1,4 +1,4 @@
-"""What is told of those who give way: what passes, and what doesn't settle; and of fixed greens what is lost at them."""
+"""What is reported of those who give way: what passes, and what doesn't settle; and of fixed greens what is lost at them."""
 
 from __future__ import annotations
 
