@@ -1,5 +1,6 @@
 // The page that is live: what the server tells is shown, and what is changed here is told to the server. It has no state of its own
 // but what is looked at.
+import { Band } from "./band.js";
 import { Boxes } from "./boxes.js";
 import { Form } from "./form.js";
 import { ReportView } from "./report_view.js";
@@ -17,6 +18,7 @@ const socket = new Socket(message => heed[message.kind](message), lost => {
 });
 const view = new ReportView(part("report"), part("template"));
 const form = new Form(part("form"), socket), boxes = new Boxes(view, socket), signals = new Signals(part("signals"), socket);
+const band = new Band(part("band"), socket);
 const works = new Works(part("works").querySelector("div"), socket);
 
 const heed = {
@@ -27,6 +29,7 @@ const heed = {
     form.mark(fault);
     boxes.take(message);
     signals.take(message);
+    band.take(message);
     showStudy(message);
   },
   page(message) { view.take(message); boxes.draw(); document.body.dataset.drawn = message.version; },

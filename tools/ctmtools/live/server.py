@@ -38,7 +38,7 @@ HEADERS = {"Cache-Control": "no-store", "X-Content-Type-Options": "nosniff", "Re
            "Cross-Origin-Resource-Policy": "same-origin", "Cross-Origin-Opener-Policy": "same-origin"}
 Handler = Callable[[web.Request], Awaitable[web.StreamResponse]]
 HERE = Path(__file__).resolve().parent
-MODULES = ("live", "socket", "form", "rows", "curve", "boxes", "signals", "works", "units", "report_view")
+MODULES = ("live", "socket", "form", "rows", "curve", "boxes", "signals", "band", "works", "units", "report_view")
 HTML, STYLE, SCRIPT = "text/html", "text/css", "text/javascript"
 BODY = re.compile("<body>\n(.*?)<script>LIBRARY", re.DOTALL)
 
