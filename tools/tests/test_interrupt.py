@@ -36,6 +36,15 @@ interrupt.LEAVE *= patience
 processes.LEAVE *= patience
 command_line.main()
 """
+# The same, where a process takes a while to begin.
+SLOWLY = """
+import subprocess, time
+begin = subprocess.Popen.__init__
+def slowly(self, *words, **terms):
+    begin(self, *words, **terms)
+    time.sleep(1)
+subprocess.Popen.__init__ = slowly
+""" + CODE
 PATIENT = 20.0  # where it isn't asked how soon a command ends
 
 
@@ -54,8 +63,8 @@ def stand_in(folder, program, call, does):
     return str(path)
 
 
-def started(folder, words, program, patience=PATIENT, **streams):
-    return subprocess.Popen([sys.executable, "-c", CODE, str(patience), *map(str, words)], cwd=folder, text=True,
+def started(folder, words, program, patience=PATIENT, code=CODE, **streams):
+    return subprocess.Popen([sys.executable, "-c", code, str(patience), *map(str, words)], cwd=folder, text=True,
                             env={**os.environ, "PYTHONPATH": str(TOOLS), "CTM_PROGRAM": program, "COLUMNS": "100"},
                             preexec_fn=heeds_an_interrupt, start_new_session=True, **streams)
 
@@ -183,6 +192,18 @@ def test_what_ends_a_command_from_outside_ends_the_program_too(tmp_path, program
     wait_for(tmp_path / "reached", process)
     process.send_signal(number)
     assert process.wait(600) == -number
+    assert not sleepers(tmp_path)
+
+
+def test_what_is_begun_as_a_command_is_ended_from_outside_is_ended_too(tmp_path, program):
+    """Two futures are begun at once, and the signal comes while both calls of the program are being begun."""
+    words, call, _ = CASES["branch"]
+    (tmp_path / "corridor.csv").write_bytes((TOOLS / "tests/studies/corridor.saved").read_bytes().partition(b"\nnet\n")[2])
+    process = started(tmp_path, words, stand_in(tmp_path, program, call, f"exec -a {tmp_path}/stand-in sleep 1000"), code=SLOWLY,
+                      patience=5.0, stdout=subprocess.DEVNULL, stderr=subprocess.DEVNULL)
+    wait_for(tmp_path / "reached", process)
+    process.send_signal(signal.SIGTERM)
+    assert process.wait(600) == -signal.SIGTERM
     assert not sleepers(tmp_path)
 
 

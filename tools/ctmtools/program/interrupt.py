@@ -36,12 +36,33 @@ class Interrupts:
         self.came = False
         self.groups: set[int] = set()
         self.own_groups = True  # whether a call of the program begins a group: not where this process ends with its own
+        self.is_ending = False  # by a signal from outside, so that nothing is begun any more
+        self.starting: set[int] = set()  # the threads that begin a process just now
         self.woken = threading.Event()
+
+    @contextmanager
+    def start(self) -> Iterator[None]:
+        """Has those who end what was begun wait until the block, which begins a process, is over."""
+        thread = threading.get_ident()
+        self.starting.add(thread)
+        try:
+            if self.is_ending:
+                raise KeyboardInterrupt
+            yield
+        finally:
+            self.starting.discard(thread)
+
+    def wait_for_starts(self) -> None:
+        """Waits until other threads have begun what they begin just now, but no longer than a call has time to end."""
+        end = time.monotonic() + LEAVE
+        while self.starting - {threading.get_ident()} and time.monotonic() < end:
+            time.sleep(0.005)
 
     def end_groups(self) -> None:
         """Ends all processes that were begun; `./ctm` that builds has time to end what it began."""
-        groups = list(self.groups)
         for number, pause in ((signal.SIGTERM, LEAVE), (signal.SIGKILL, 0)):
+            self.wait_for_starts()
+            groups = list(self.groups)
             for group in groups:
                 end_group(group, number)
             if groups:
@@ -56,6 +77,7 @@ class Interrupts:
 
     def pass_on(self, number: int, frame: FrameType | None) -> None:
         """Ends what was begun, and then this process by the signal that came."""
+        self.is_ending = True
         self.end_groups()
         signal.signal(number, signal.SIG_DFL)
         os.kill(os.getpid(), number)

@@ -17,9 +17,10 @@ from .interrupt import INTERRUPTS, LEAVE, LOOK, Result, as_they_end, end_group
 @contextmanager
 def called(words: Sequence[str | Path], **terms: Any) -> Iterator[subprocess.Popen[bytes]]:
     """A program that is begun with such words and terms of Popen; where the block is interrupted, it is ended."""
-    process = subprocess.Popen(words, process_group=0 if INTERRUPTS.own_groups else None, **terms)
-    if INTERRUPTS.own_groups:
-        INTERRUPTS.groups.add(process.pid)
+    with INTERRUPTS.start():
+        process = subprocess.Popen(words, process_group=0 if INTERRUPTS.own_groups else None, **terms)
+        if INTERRUPTS.own_groups:
+            INTERRUPTS.groups.add(process.pid)
     try:
         yield process
     except BaseException:
