@@ -1,7 +1,7 @@
 // The stop lines of a road over time and distance: their greens, and the band of those who drive through all of them at free flow.
 import { durationOf, kmOf } from "./units.js";
 
-const WIDTH = 300, HEIGHT = 170, LEFT = 34, BELOW = 16, BAR = 6, CYCLES = 2;  // of the diagram, in its own units
+const WIDTH = 300, HEIGHT = 170, LEFT = 34, BELOW = 18, BAR = 6, CYCLES = 2;  // of the diagram, in its own units
 const HOUR = 3600;  // seconds
 
 export class Band {
@@ -30,7 +30,7 @@ export class Band {
       .on("pointermove", () => this.move(d3.event)).on("pointerup pointercancel", () => { this.held = null; });
     const bands = bandsOf(road), x = d3.scaleLinear([0, CYCLES * road.cycle], [LEFT, WIDTH]);
     const y = d3.scaleLinear(d3.extent(road.lines, one => one.at), [HEIGHT - BELOW - BAR, BAR]);
-    svg.selectAll("g.axis").data([0]).join("g").attr("class", "axis").attr("transform", `translate(0,${HEIGHT - BELOW})`).call(d3.axisBottom(x).ticks(5));
+    svg.selectAll("g.axis").data([0]).join("g").attr("class", "axis").attr("transform", `translate(0,${HEIGHT - BELOW})`).call(d3.axisBottom(x).ticks(5).tickFormat(time => `${time} s`));
     drawBands(svg, road, bands, x, y);
     this.drawLines(svg, road, x, y);
     const wide = bands.length ? Math.max(...bands.map(([from, to]) => to - from)) : 0;
@@ -48,7 +48,7 @@ export class Band {
     rows.attr("data-line", one => `${one.key} ${one.number}`).attr("aria-label", one => `green at ${round(one.at)} km from ${round(one.begin)} s for ${round(one.green)} s`)
       .on("pointerdown", function (one) { owner.hold(d3.event, this, road, one); }).on("keydown", one => this.key(d3.event, road, one));
     rows.select("line").attr("x1", LEFT).attr("x2", WIDTH).attr("y1", one => y(one.at)).attr("y2", one => y(one.at));
-    rows.select("text").attr("y", one => y(one.at) + 3).text(one => round(one.at));
+    rows.select("text").attr("y", one => y(one.at) + 3).text(one => `${round(one.at)} km`);
     rows.select(".greens").selectAll("rect").data(one => d3.range(-1, CYCLES).map(k => [one, one.begin + k * road.cycle]).filter(([, begin]) => begin + one.green > 0))
       .join("rect").attr("class", "green").attr("y", ([one]) => y(one.at) - BAR / 2).attr("height", BAR)
       .attr("x", ([, begin]) => x(Math.max(0, begin))).attr("width", ([one, begin]) => x(Math.min(CYCLES * road.cycle, begin + one.green)) - x(Math.max(0, begin)));
@@ -129,9 +129,11 @@ export function bandsOf(road) {
 }
 function drawBands(svg, road, bands, x, y) {
   const first = road.lines[0].at, last = road.lines[road.lines.length - 1].at, way = (last - first) / road.speed * HOUR;
-  const shown = bands.flatMap(([from, to]) => d3.range(-1, CYCLES).map(k => [from + k * road.cycle, to + k * road.cycle]));
-  const end = CYCLES * road.cycle, at = (time, place) => `${x(Math.min(end, Math.max(0, time)))},${y(place)}`;
-  svg.selectAll("polygon.band").data(shown.filter(([from, to]) => to > 0 && from < end)).join(enter => enter.insert("polygon", "g").attr("class", "band"))
+  const shown = bands.flatMap(([from, to]) => d3.range(-2, CYCLES).map(k => [from + k * road.cycle, to + k * road.cycle]));
+  const room = svg.selectAll("clipPath").data([0]).join(enter => { const clip = enter.append("clipPath").attr("id", "live-band-room"); clip.append("rect"); return clip; });
+  room.select("rect").attr("x", LEFT).attr("width", WIDTH - LEFT).attr("height", HEIGHT);
+  const at = (time, place) => `${x(time)},${y(place)}`;
+  svg.selectAll("polygon.band").data(shown).join(enter => enter.insert("polygon", "g").attr("class", "band").attr("clip-path", "url(#live-band-room)"))
     .attr("points", ([from, to]) => `${at(from, first)} ${at(to, first)} ${at(to + way, last)} ${at(from + way, last)}`);
 }
 const modulo = (value, by) => (value % by + by) % by;
